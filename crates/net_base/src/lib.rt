@@ -1,14 +1,23 @@
-//! Addresses, prefixes and the small types that every other crate speaks of.
+//! Addresses, prefixes, numbers, lists, and the small types that every other crate speaks of.
 #![tactic(auto)]
 
 mod addr;
+mod conf;
 mod items;
+pub mod number;
 mod prefix;
+mod prefix_set;
+mod roa;
+mod way;
 
-pub use addr::{Addr, Family};
+pub use addr::{Addr, BadAddr, Family};
+pub use conf::{ConfError, ConfFault, ConfKind, Counted};
 pub use items::{Bytes, Items, PrefixList};
-pub use prefix::Prefix;
+pub use prefix::{BadPrefix, Prefix};
+pub use prefix_set::PrefixSet;
+pub use roa::{Ovs, Roa, RoaList};
 use std::alloc::AllocError;
+pub use way::Way;
 
 /// An allocation was refused. Nothing else is wrong.
 pub type NoMemory = AllocError;

@@ -1,0 +1,10 @@
+/// The type of an OPEN.
+pub const OPEN: u8 = 1;
+/// The type of an UPDATE.
+pub const UPDATE: u8 = 2;
+/// The type of a NOTIFICATION.
+pub const NOTIFICATION: u8 = 3;
+/// The type of a KEEPALIVE.
+pub const KEEPALIVE: u8 = 4;
+/// The type of a ROUTE-REFRESH.
+pub const ROUTE_REFRESH: u8 = 5;

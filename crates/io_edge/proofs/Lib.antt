@@ -1,0 +1,4 @@
+mod LineLists
+mod LinesAhead
+mod Moves
+mod Steps

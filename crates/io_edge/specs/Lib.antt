@@ -1,0 +1,15 @@
+pub mod Buffer
+pub mod Faults
+pub mod FileFault
+pub mod FileLines
+pub mod Files
+pub mod MemoryNet
+pub mod MemoryPort
+pub mod MemorySink
+pub mod MemorySource
+pub mod Net
+pub mod Reading
+pub mod Rows
+pub mod Sink
+pub mod TableMemory
+pub mod Told
