@@ -1,0 +1,5 @@
+pub mod Grammar
+
+
+pub mod Held
+pub mod Lines
