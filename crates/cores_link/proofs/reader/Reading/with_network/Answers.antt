@@ -1,0 +1,15 @@
+use Rattle.std.proofs.Common.{◌≡◌, subst, arith}
+use Rattle.std.proofs.lemmas.Grind.{common_steps}
+use Rattle.std.specs.BTreeMap.{insert_entry}
+use Rattle.std.specs.declared.cmp.Ordering.{Ordering}
+use Rattle.net_base.specs.declared.prefix.Prefix.{Prefix}
+use Rattle.net_base.specs.Order.{prefix_cmp}
+use Rattle.net_base.proofs.Order.{derived_prefix_cmp}
+use Rattle.cores_link.proofs.reader.Reading.with_network.Goals as goal
+
+pub returns : goal.returns
+returns c =
+    let Puts : (Prefix → Prefix → Ordering) → Type 0 = λ cmp.
+        c.insert.new.self.entries ≡ insert_entry cmp c.args.self.networks.entries c.args.network.prefix c.args.network in
+    let entries : Puts prefix_cmp = subst Puts derived_prefix_cmp c.in_ok-insert.ensures.entries in
+    grind (arith, common_steps, entries)

@@ -1,0 +1,5 @@
+pub mod Drafts
+pub mod Generations
+pub mod Standing
+pub mod Routers
+pub mod Refusals

@@ -1,0 +1,53 @@
+-- The Router stands for a history: what it keeps is what the history says.
+use Rattle.std.specs.Prelude.{◌≡◌, ℕ, ◌+◌, ◌-◌, ◌^◌, Bool, true, false, List, [], ◌∷◌, length, min, Option, Some, None}
+use Rattle.core_msgs.specs.EventText.{event_text}
+use Rattle.core_msgs.specs.declared.event.Event.{Event}
+use Rattle.core_msgs.specs.declared.answer.Answer.{Answer}
+use Rattle.core_msgs.specs.declared.answer.Part.TheVariants.{Reload}
+use Rattle.run_record.specs.Run.{History, Step, under_way}
+use Rattle.run_record.specs.Answers.{Answers}
+use Rattle.cores_link.specs.declared.router.Router.{Router}
+use Rattle.cores_link.specs.declared.router.Quiet.{Quiet}
+use Rattle.cores_link.specs.declared.router.Quiet.TheVariants.{Yes, Pending}
+use Rattle.cores_link.specs.Standing.{AcceptedBy, step}
+
+-- how many events were taken
+abbrev pub events_taken : Router → ℕ
+events_taken r = r.events
+
+-- whether memory ran out in a call
+abbrev pub is_spent : Router → Bool
+is_spent r = r.spent
+
+-- one more event and its size, a count that stays at the last value of its type
+abbrev pub with_size : ℕ → Event → ℕ
+with_size size event = min (min (size + 1) (2 ^ 128 - 1) + length (event_text event)) (2 ^ 128 - 1)
+
+-- the sum of one plus the size of each event
+abbrev pub size : History → ℕ
+size [] = 0
+size (step ∷ before) = with_size (size before) step.event
+
+-- what the Router keeps is what the history says
+pub record Stands (r : Router) (h : History) : Type 0 where
+  pub live : r.spent ≡ false
+  pub accepted : AcceptedBy r.accepted h
+  pub events : r.events ≡ length h
+  pub size : r.size ≡ size h
+
+-- the event may be answered so behind the history, and the Router then stands for the history followed by it
+pub record StandsAfter (r : Router) (h : History) (event : Event) (answer : Answer) : Type 0 where
+  pub answers : Answers h event answer
+  pub stands : Stands r (step event answer ∷ h)
+
+-- nothing changed but the counts of events and of their size
+pub record OnlyCounts (old new : Router) (event : Event) : Type 0 where
+  pub accepted : new.accepted ≡ old.accepted
+  pub events : new.events ≡ old.events + 1
+  pub size : new.size ≡ with_size old.size event
+  pub spent : new.spent ≡ old.spent
+
+-- what is left to do by what is under way
+abbrev pub quiet_of : Option ℕ → Quiet
+quiet_of None = Yes
+quiet_of (Some generation) = Pending Reload

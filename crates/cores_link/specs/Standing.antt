@@ -1,0 +1,27 @@
+-- The Router stands for a history: what it keeps is what the history says.
+use Rattle.std.specs.Prelude.{◌≡◌, ℕ, ◌+◌, ◌-◌, ◌^◌, Bool, true, false, List, [], ◌∷◌, length, min, Option, Some, None, if◌then◌else◌}
+use Rattle.core_msgs.specs.EventText.{event_text}
+use Rattle.core_msgs.specs.declared.event.Event.{Event}
+use Rattle.core_msgs.specs.declared.answer.Answer.{Answer}
+use Rattle.run_record.specs.Answers.{Answers}
+use Rattle.run_record.specs.Run.{History, Step, conf, generation, under_way}
+use Rattle.cores_link.specs.declared.accepted.Accepted.{Accepted}
+use Rattle.cores_link.specs.Generations.{accepted_generation}
+
+-- the generation that is under way
+abbrev pub generation_if : Bool → ℕ → Option ℕ
+generation_if true generation = Some generation
+generation_if false generation = None
+
+-- what is accepted is what the history says
+pub record AcceptedBy (a : Accepted) (h : History) : Type 0 where
+  pub conf : a.conf ≡ conf h
+  pub generation : a.generation ≡ generation h
+  pub under_way : generation_if a.under_way a.generation ≡ under_way h
+
+abbrev pub step : Event → Answer → Step
+step event answer = record { event = event; answer = answer }
+
+-- The event may be answered so, and what is accepted then follows from that answer, whatever the history was.
+abbrev pub Follows : Accepted → Accepted → Event → Answer → Type 0
+Follows old new event answer = (h : History) → AcceptedBy old h → Answers h event answer × AcceptedBy new (step event answer ∷ h)
