@@ -1,0 +1,81 @@
+-- Each status of `replay` has its cause.
+use Rattle.std.proofs.Common.{◌≡◌, ◌≢◌, ℕ, List, ◌++◌, Option, None, Some, IfSome, Result, Ok, Err, refl, sym, ap, ◌∙◌, arith}
+use Rattle.event_text.specs.Grammar.{FileEnd, FileEvents, Ended, BadEvent, TooLong}
+use Rattle.bgpd_top.specs.Transcript.{Transcribes, TranscribesFront, events_of}
+use Rattle.bgpd_top.specs.Serving.{Ends, CountsServing}
+use Rattle.bgpd_top.specs.Command.{ReplayCauses, status_of, status_of_end}
+use Rattle.bgpd_top.specs.declared.serving.ServeFault.{ServeFault}
+use Rattle.bgpd_top.specs.declared.serving.ServeFault.TheVariants as fault
+
+-- a transcript of all events tells how the file ends
+end_told : (end : FileEnd) (file : Option FileEvents) (before after : Option (List ℕ)) → Transcribes end file before after →
+    (all : FileEvents) → file ≡ Some all → status_of_end end ≡ status_of_end all.end
+end_told end None before after t all e = cc
+end_told end (Some found) before after t all e =
+    let same : found ≡ all = cc in
+    let is : found ≡ record { events = events_of t.history; end = end } = t.events in
+    ap (λ (x : FileEvents). status_of_end x.end) (sym is ∙ same)
+
+pub causes : (outcome : Result (Unit {0}) ServeFault) (file : Option FileEvents) (before after : Option (List ℕ)) (source source' sink sink' : ℕ) →
+    Ends file before after outcome → CountsServing source source' sink sink' outcome →
+    ReplayCauses (status_of outcome) file before after source source' sink sink'
+causes (Ok done) file before after source source' sink sink' ends counts = record {
+  done = λ _. ends;
+  bad_event = λ e. absurd (omega arith);
+  read_fault = λ e. absurd (omega arith);
+  no_read_fault = λ _. counts.0;
+  write_fault = λ e. absurd (omega arith);
+  no_write_fault = λ _. counts.1;
+  too_long = λ e. absurd (omega arith);
+  complete = λ all e a b c. end_told Ended file before after ends all e;
+}
+causes (Err (fault.BadEvent line)) file before after source source' sink sink' ends counts = record {
+  done = λ e. absurd (omega arith);
+  bad_event = λ _. (line, ends);
+  read_fault = λ e. absurd (omega arith);
+  no_read_fault = λ _. counts.0;
+  write_fault = λ e. absurd (omega arith);
+  no_write_fault = λ _. counts.1;
+  too_long = λ e. absurd (omega arith);
+  complete = λ all e a b c. end_told (BadEvent line) file before after ends all e;
+}
+causes (Err fault.ReadFault) file before after source source' sink sink' ends counts = record {
+  done = λ e. absurd (omega arith);
+  bad_event = λ e. absurd (omega arith);
+  read_fault = λ _. (counts.0, ends);
+  no_read_fault = λ h. absurd (h refl);
+  write_fault = λ e. absurd (omega arith);
+  no_write_fault = λ _. counts.1;
+  too_long = λ e. absurd (omega arith);
+  complete = λ all e a b c. absurd (a refl);
+}
+causes (Err fault.WriteFault) file before after source source' sink sink' ends counts = record {
+  done = λ e. absurd (omega arith);
+  bad_event = λ e. absurd (omega arith);
+  read_fault = λ e. absurd (omega arith);
+  no_read_fault = λ _. counts.1;
+  write_fault = λ _. counts.0;
+  no_write_fault = λ h. absurd (h refl);
+  too_long = λ e. absurd (omega arith);
+  complete = λ all e a b c. absurd (b refl);
+}
+causes (Err fault.NoMemory) file before after source source' sink sink' ends counts = record {
+  done = λ e. absurd (omega arith);
+  bad_event = λ e. absurd (omega arith);
+  read_fault = λ e. absurd (omega arith);
+  no_read_fault = λ _. counts.0;
+  write_fault = λ e. absurd (omega arith);
+  no_write_fault = λ _. counts.1;
+  too_long = λ e. absurd (omega arith);
+  complete = λ all e a b c. absurd (c refl);
+}
+causes (Err fault.TooLong) file before after source source' sink sink' ends counts = record {
+  done = λ e. absurd (omega arith);
+  bad_event = λ e. absurd (omega arith);
+  read_fault = λ e. absurd (omega arith);
+  no_read_fault = λ _. counts.0;
+  write_fault = λ e. absurd (omega arith);
+  no_write_fault = λ _. counts.1;
+  too_long = λ _. ends;
+  complete = λ all e a b c. end_told TooLong file before after ends all e;
+}

@@ -1,0 +1,72 @@
+-- The commands, and what each status means.
+use Rattle.std.specs.Prelude.{◌≡◌, ◌≢◌, ℕ, List, [], ◌∷◌, ◌++◌, Option, None, Some, Result, Ok, Err, codes, decimal, bytes_eq, if◌then◌else◌}
+use Rattle.std.specs.Io.KnownBytes.{append_known}
+use Rattle.io_edge.specs.Faults.{Rose}
+use Rattle.event_text.specs.Grammar.{FileEnd, FileEvents, Ended, BadEvent, TooLong}
+use Rattle.bgpd_top.specs.Transcript.{Transcribes, TranscribesFront}
+use Rattle.bgpd_top.specs.declared.serving.ServeFault.{ServeFault}
+use Rattle.bgpd_top.specs.declared.serving.ServeFault.TheVariants as fault
+use Rattle.bgpd_top.specs.declared.program.Command.{Command}
+use Rattle.bgpd_top.specs.declared.program.Command.TheVariants.{Help, Version, Replay}
+
+-- the command that one word is
+abbrev pub word_command : List ℕ → Option Command
+word_command word =
+    if bytes_eq word (codes "replay") then Some Replay
+    else (if bytes_eq word (codes "--help") then Some Help
+    else (if bytes_eq word (codes "--version") then Some Version
+    else None))
+
+-- the command that the words are
+abbrev pub command_of : List (List ℕ) → Option Command
+command_of (word ∷ []) = word_command word
+command_of _ = None
+
+-- the status of each way to end
+abbrev pub status_of : Result (Unit {0}) ServeFault → ℕ
+status_of (Ok _) = 0
+status_of (Err (fault.BadEvent line)) = 3
+status_of (Err fault.ReadFault) = 4
+status_of (Err fault.WriteFault) = 5
+status_of (Err fault.NoMemory) = 7
+status_of (Err fault.TooLong) = 8
+
+-- what stands on standard error
+abbrev pub fault_text : ServeFault → List ℕ
+fault_text (fault.BadEvent line) = codes "line " ++ (decimal line ++ codes ": bad event\n")
+fault_text fault.ReadFault = codes "read fault\n"
+fault_text fault.WriteFault = codes "write fault\n"
+fault_text fault.NoMemory = codes "no memory\n"
+fault_text fault.TooLong = codes "too long\n"
+
+-- a text was written to a sink, unless it failed
+abbrev pub Tells : ℕ → ℕ → Option (List ℕ) → Option (List ℕ) → List ℕ → Type 0
+Tells count count' before after text = count' ≡ count → after ≡ append_known before text
+
+abbrev pub fault_told : Result (Unit {0}) ServeFault → List ℕ
+fault_told (Ok _) = []
+fault_told (Err fault) = fault_text fault
+
+-- the status that a file's end gives, where nothing fails
+abbrev pub status_of_end : FileEnd → ℕ
+status_of_end Ended = 0
+status_of_end (BadEvent line) = 3
+status_of_end TooLong = 8
+
+-- Each status of `replay` with its cause, over the events of the source's bytes, what the sink had and has, and the
+-- counts of faults of both.
+pub record ReplayCauses (status : ℕ) (file : Option FileEvents) (before after : Option (List ℕ)) (source source' sink sink' : ℕ) : Type 0 where
+  -- the file was read to its end, and the transcript of all its events was written
+  pub done : status ≡ 0 → Transcribes Ended file before after
+  -- the first line that isn't of the grammar was reached, behind the transcript of the events before it
+  pub bad_event : status ≡ 3 → (line : ℕ) × Transcribes (BadEvent line) file before after
+  -- the source failed, behind the transcript of the first events
+  pub read_fault : status ≡ 4 → Rose source source' × TranscribesFront file before after
+  pub no_read_fault : status ≢ 4 → source' ≡ source
+  -- the sink failed
+  pub write_fault : status ≡ 5 → Rose sink sink'
+  pub no_write_fault : status ≢ 5 → sink' ≡ sink
+  -- a limit was passed, behind the transcript of the events before it
+  pub too_long : status ≡ 8 → Transcribes TooLong file before after
+  -- where nothing failed and memory was there, the status is that of the file's end
+  pub complete : (all : FileEvents) → file ≡ Some all → status ≢ 4 → status ≢ 5 → status ≢ 7 → status ≡ status_of_end all.end

@@ -1,0 +1,187 @@
+ghost use Rattle.std.specs.Prelude.{◌≡◌, ◌≢◌, ◌↔◌, ℕ, List, Some, None, Ok, Err, map, codes, option_map, OnOk, IfErr, string_bytes};
+ghost use Rattle.std.specs.Io.KnownBytes.{append_known};
+ghost use Rattle.bgpd_top.specs.Ahead.{events_of_file};
+ghost use Rattle.bgpd_top.specs.Serving.{Ends, CountsServing};
+ghost use Rattle.bgpd_top.specs.Command.{word_command, command_of, status_of, fault_text, fault_told, Tells, ReplayCauses};
+ghost use Rattle.bgpd_top.specs.Words.{usage_text, help_text, version_text};
+
+use crate::replay::EventReader;
+use crate::serving::{ServeFault, serve};
+use cores_link::Router;
+use io_edge::{Clock, Failed, Files, Kernel, PeerNet, Sink, Source};
+use itoa::Buffer;
+use std::alloc::Global;
+
+/// What the words ask for.
+#[derive(Clone, Copy, Debug, PartialEq, Eq)]
+pub enum Command {
+    /// `--help`: how the program is called.
+    Help,
+    /// `--version`: its version.
+    Version,
+    /// `replay`: the events of standard input, to a transcript on standard output.
+    Replay,
+}
+
+/// What stands on standard error where the words fit no command.
+const USAGE: &str = "usage: bgpd replay\n       bgpd --help\n       bgpd --version\n";
+
+/// What `--help` prints.
+const HELP: &str = "bgpd replay\n    reads events from standard input and writes their transcript to standard output\nbgpd --version\n    prints the version\n";
+
+/// What `--version` prints.
+const VERSION: &str = "bgpd 0.1\n";
+
+/// The program `bgpd` over the objects that it is handed; the answer is its status.
+///
+/// 0: the command is done. 2: the words fit no command, which the usage on `err` tells. 3: a line isn't of the grammar
+/// of events, which `line N: bad event` tells. 4: the source failed, `read fault`. 5: the sink `out` failed,
+/// `write fault`. 7: memory ran out, `no memory`. 8: a line or the file is past its limit, `too long`. A fault of `err`
+/// changes no status. Nothing is used of the files, the nets, the kernel and the clock yet.
+#[tactic(auto, using(crate::proofs::Causes::causes))]
+pub fn bgpd_main<F: Files, I: Source, O: Sink, E: Sink, N: PeerNet, K: Kernel, C: Clock>(
+    alloc: Global,
+    words: &[String],
+    _files: &mut F,
+    input: &mut I,
+    out: &mut O,
+    err: &mut E,
+    _net: &mut N,
+    _other: &mut N,
+    _kernel: &mut K,
+    _clock: &mut C,
+) -> u8
+    // The words fit no command.
+    ensures usage { (result ≡ 2) ↔ (command_of (map string_bytes words.now) ≡ None) }
+
+    // Each status of `replay` with its cause.
+    ensures replay { command_of (map string_bytes words.now) ≡ Some Command.Replay →
+        ReplayCauses result (option_map events_of_file (I.left input.old)) (O.written out.old) (O.written out.new)
+            (I.faults input.old) (I.faults input.new) (O.faults out.old) (O.faults out.new) }
+
+    // What the other commands print.
+    ensures help { command_of (map string_bytes words.now) ≡ Some Command.Help → result ≡ 0 →
+        O.written out.new ≡ append_known (O.written out.old) help_text }
+    ensures version { command_of (map string_bytes words.now) ≡ Some Command.Version → result ≡ 0 →
+        O.written out.new ≡ append_known (O.written out.old) version_text }
+{
+    let Some(command) = command_of(words) else {
+        let _ = err.write(USAGE.as_bytes());
+        return 2;
+    };
+    match run(alloc, command, input, out) {
+        Ok(()) => 0,
+        Err(fault) => {
+            let _ = report(err, fault);
+            status_of(fault)
+        }
+    }
+}
+
+fn command_of(words: &[String]) -> Option<Command>
+    ensures { result ≡ command_of (map string_bytes words.now) }
+{
+    match words {
+        [word] => word_command(word.as_bytes()),
+        _ => None,
+    }
+}
+
+fn word_command(word: &[u8]) -> Option<Command>
+    ensures { result ≡ word_command word.now }
+{
+    if word == b"replay".as_slice() {
+        Some(Command::Replay)
+    } else if word == b"--help".as_slice() {
+        Some(Command::Help)
+    } else if word == b"--version".as_slice() {
+        Some(Command::Version)
+    } else {
+        None
+    }
+}
+
+/// Does what a command asks for.
+fn run<I: Source, O: Sink>(
+    alloc: Global,
+    command: Command,
+    input: &mut I,
+    out: &mut O,
+) -> Result<(), ServeFault>
+    ensures replay { command ≡ Command.Replay → Ends (option_map events_of_file (I.left input.old)) (O.written out.old) (O.written out.new) result }
+    ensures counts { CountsServing (I.faults input.old) (I.faults input.new) (O.faults out.old) (O.faults out.new) result }
+    ensures help { command ≡ Command.Help → OnOk result (O.written out.new ≡ append_known (O.written out.old) help_text) }
+    ensures version { command ≡ Command.Version → OnOk result (O.written out.new ≡ append_known (O.written out.old) version_text) }
+{
+    match command {
+        Command::Help => write_text(out, HELP),
+        Command::Version => write_text(out, VERSION),
+        Command::Replay => replay(alloc, input, out),
+    }
+}
+
+fn write_text<O: Sink>(out: &mut O, text: &str) -> Result<(), ServeFault>
+    ensures written { OnOk result (O.written out.new ≡ append_known (O.written out.old) text.now) }
+    ensures counts { (n : ℕ) → CountsServing n n (O.faults out.old) (O.faults out.new) result }
+{
+    match out.write(text.as_bytes()) {
+        Ok(()) => Ok(()),
+        Err(_) => Err(ServeFault::WriteFault),
+    }
+}
+
+/// Serves the events of a source from its beginning with a Router of its own.
+fn replay<I: Source, O: Sink>(
+    alloc: Global,
+    input: &mut I,
+    out: &mut O,
+) -> Result<(), ServeFault>
+    ensures transcript { Ends (option_map events_of_file (I.left input.old)) (O.written out.old) (O.written out.new) result }
+    ensures counts { CountsServing (I.faults input.old) (I.faults input.new) (O.faults out.old) (O.faults out.new) result }
+{
+    let Ok(mut router) = Router::new(alloc) else {
+        return Err(ServeFault::NoMemory);
+    };
+    let Ok(mut reader) = EventReader::new(alloc) else {
+        return Err(ServeFault::NoMemory);
+    };
+    serve(alloc, &mut router, &mut reader, input, out)
+}
+
+/// The status of the program behind a fault.
+fn status_of(fault: ServeFault) -> u8
+    ensures { result ≡ status_of (Err fault) }
+{
+    match fault {
+        ServeFault::BadEvent(_) => 3,
+        ServeFault::ReadFault => 4,
+        ServeFault::WriteFault => 5,
+        ServeFault::NoMemory => 7,
+        ServeFault::TooLong => 8,
+    }
+}
+
+/// Tells a fault on standard error.
+fn report<E: Sink>(err: &mut E, fault: ServeFault) -> Result<(), Failed>
+    ensures { OnOk result (E.written err.new ≡ append_known (E.written err.old) (fault_text fault)) }
+{
+    match fault {
+        ServeFault::BadEvent(line) => report_line(err, line),
+        ServeFault::ReadFault => err.write(b"read fault\n"),
+        ServeFault::WriteFault => err.write(b"write fault\n"),
+        ServeFault::NoMemory => err.write(b"no memory\n"),
+        ServeFault::TooLong => err.write(b"too long\n"),
+    }
+}
+
+
+fn report_line<E: Sink>(err: &mut E, line: u32) -> Result<(), Failed>
+    ensures { OnOk result (E.written err.new ≡ append_known (E.written err.old) (fault_text (ServeFault.BadEvent line))) }
+{
+    let mut buffer = Buffer::new();
+    let number = buffer.format(line);
+    err.write(b"line ")?;
+    err.write(number.as_bytes())?;
+    err.write(b": bad event\n")?;
+    Ok(())
+}
