@@ -206,5 +206,5 @@ pub bad_event_comes : (file : Option FileEvents) (head : List ℕ) (count number
     held_event held ≡ Err number → wants_more held ≡ false → IfSome file (λ all. all ≡ no_more (BadEvent number))
 bad_event_comes file head count number first held lines later fault then at_head is_first same e whole =
     let comes : file ≡ held_then_come held later then =
-        at_head.2 ∙ begin head count lines fault at_head.0 at_head.1 ∙ ap (λ h. held_then_come h lines fault) (sym is_first) ∙ same in
+    at_head.2 ∙ begin head count lines fault at_head.0 at_head.1 ∙ ap (λ h. held_then_come h lines fault) (sym is_first) ∙ same in
     rw comes (bad held number later then e whole)

@@ -8,3 +8,6 @@ mod serving;
 pub use program::{Command, bgpd_main};
 pub use replay::{EventReader, WorldFault};
 pub use serving::{ServeFault, serve};
+
+#[cfg(test)]
+mod tests;

@@ -27,7 +27,8 @@ pub enum Command {
 const USAGE: &str = "usage: bgpd replay\n       bgpd --help\n       bgpd --version\n";
 
 /// What `--help` prints.
-const HELP: &str = "bgpd replay\n    reads events from standard input and writes their transcript to standard output\nbgpd --version\n    prints the version\n";
+const HELP: &str =
+    "bgpd replay\n    reads events from standard input and writes their transcript to standard output\nbgpd --version\n    prints the version\n";
 
 /// What `--version` prints.
 const VERSION: &str = "bgpd 0.1\n";
@@ -57,7 +58,7 @@ pub fn bgpd_main<F: Files, I: Source, O: Sink, E: Sink, N: PeerNet, K: Kernel, C
     // Each status of `replay` with its cause.
     ensures replay { command_of (map string_bytes words.now) ≡ Some Command.Replay →
         ReplayCauses result (option_map events_of_file (I.left input.old)) (O.written out.old) (O.written out.new)
-            (I.faults input.old) (I.faults input.new) (O.faults out.old) (O.faults out.new) }
+        (I.faults input.old) (I.faults input.new) (O.faults out.old) (O.faults out.new) }
 
     // What the other commands print.
     ensures help { command_of (map string_bytes words.now) ≡ Some Command.Help → result ≡ 0 →
@@ -131,11 +132,7 @@ fn write_text<O: Sink>(out: &mut O, text: &str) -> Result<(), ServeFault>
 }
 
 /// Serves the events of a source from its beginning with a Router of its own.
-fn replay<I: Source, O: Sink>(
-    alloc: Global,
-    input: &mut I,
-    out: &mut O,
-) -> Result<(), ServeFault>
+fn replay<I: Source, O: Sink>(alloc: Global, input: &mut I, out: &mut O) -> Result<(), ServeFault>
     ensures transcript { Ends (option_map events_of_file (I.left input.old)) (O.written out.old) (O.written out.new) result }
     ensures counts { CountsServing (I.faults input.old) (I.faults input.new) (O.faults out.old) (O.faults out.new) result }
 {
@@ -173,7 +170,6 @@ fn report<E: Sink>(err: &mut E, fault: ServeFault) -> Result<(), Failed>
         ServeFault::TooLong => err.write(b"too long\n"),
     }
 }
-
 
 fn report_line<E: Sink>(err: &mut E, line: u32) -> Result<(), Failed>
     ensures { OnOk result (E.written err.new ≡ append_known (E.written err.old) (fault_text (ServeFault.BadEvent line))) }

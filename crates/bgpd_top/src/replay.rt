@@ -127,11 +127,7 @@ impl EventReader {
 
     /// Takes the lines that belong to the event of the lines held.
     #[tactic(auto, using(crate::proofs::Coming::more, crate::proofs::Coming::cut, crate::proofs::Coming::unended))]
-    fn fill<S: Source>(
-        &mut self,
-        held: &mut LinesHeld,
-        source: &mut S,
-    ) -> Result<(), WorldFault>
+    fn fill<S: Source>(&mut self, held: &mut LinesHeld, source: &mut S) -> Result<(), WorldFault>
         requires live { is_spent_reader self.old ≡ false }
         requires last { held.old.last ≡ reader_count self.old }
         requires small { reader_count self.old ≤ file_limit }

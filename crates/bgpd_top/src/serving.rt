@@ -37,7 +37,7 @@ pub enum ServeFault {
 impl From<WorldFault> for ServeFault {
     ghost use Rattle.std.specs.Prelude.{◌≡◌};
     ghost use Rattle.io_edge.specs.FileLines.{file_limit};
-ghost use Rattle.bgpd_top.specs.ServeCauses.{of_world};
+    ghost use Rattle.bgpd_top.specs.ServeCauses.{of_world};
 
     ghost from_gives = { λ cause fault. fault ≡ of_world cause };
 
