@@ -5,13 +5,9 @@ use bgpd_top::bgpd_main;
 use io_edge::{HostClock, HostFiles, MemoryNet, ReaderSource, TableMemory, WriterSink};
 use net_base::Items;
 use std::alloc::Global;
-use std::env;
-use std::io;
 use std::process::ExitCode;
 use std::rt::Env;
-
-/// The status where the words of the command line can't be read.
-const FAULTY_WORDS: u8 = 2;
+use std::{env, io};
 
 /// The words behind the program's name.
 fn words(rt: &(impl Env + AllocGlobal)) -> io::Result<Vec<String>> {
@@ -26,20 +22,19 @@ fn no_net(alloc: Global) -> MemoryNet {
 
 fn main(rt: HostRuntime) -> ExitCode {
     let alloc = rt.alloc();
-    let status = match words(&rt) {
-        Ok(words) => bgpd_main(
-            alloc,
-            words.as_slice(),
-            &mut HostFiles::new(&rt),
-            &mut ReaderSource::new(rt.reader()),
-            &mut WriterSink::new(io::writer(&rt)),
-            &mut WriterSink::new(rt.stderr()),
-            &mut no_net(alloc),
-            &mut no_net(alloc),
-            &mut TableMemory::new(alloc),
-            &mut HostClock::new(&rt),
-        ),
-        Err(_) => FAULTY_WORDS,
-    };
+    // Words that can't be read fit no command, as no words do.
+    let words = words(&rt).unwrap_or(Vec::new(alloc));
+    let status = bgpd_main(
+        alloc,
+        words.as_slice(),
+        &mut HostFiles::new(&rt),
+        &mut ReaderSource::new(rt.reader()),
+        &mut WriterSink::new(io::writer(&rt)),
+        &mut WriterSink::new(rt.stderr()),
+        &mut no_net(alloc),
+        &mut no_net(alloc),
+        &mut TableMemory::new(alloc),
+        &mut HostClock::new(&rt),
+    );
     ExitCode::from(status)
 }

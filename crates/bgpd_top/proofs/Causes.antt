@@ -3,7 +3,7 @@ use Rattle.std.proofs.Common.{◌≡◌, ◌≢◌, ℕ, List, ◌++◌, Option,
 use Rattle.event_text.specs.Grammar.{FileEnd, FileEvents, Ended, BadEvent, TooLong}
 use Rattle.bgpd_top.specs.Transcript.{Transcribes, TranscribesFront, events_of}
 use Rattle.bgpd_top.specs.Serving.{Ends, CountsServing}
-use Rattle.bgpd_top.specs.Command.{ReplayCauses, status_of, status_of_end}
+use Rattle.bgpd_top.specs.Command.{ReplayCauses, status_of, status_of_end, fault_told}
 use Rattle.bgpd_top.specs.declared.serving.ServeFault.{ServeFault}
 use Rattle.bgpd_top.specs.declared.serving.ServeFault.TheVariants as fault
 
@@ -16,66 +16,72 @@ end_told end (Some found) before after t all e =
     let is : found ≡ record { events = events_of t.history; end = end } = t.events in
     ap (λ (x : FileEvents). status_of_end x.end) (sym is ∙ same)
 
-pub causes : (outcome : Result (Unit {0}) ServeFault) (file : Option FileEvents) (before after : Option (List ℕ)) (source source' sink sink' : ℕ) →
-    Ends file before after outcome → CountsServing source source' sink sink' outcome →
-    ReplayCauses (status_of outcome) file before after source source' sink sink'
-causes (Ok done) file before after source source' sink sink' ends counts = record {
+pub causes : (outcome : Result (Unit {0}) ServeFault) (file : Option FileEvents) (before after : Option (List ℕ)) (source source' sink sink' : ℕ) (Told : List ℕ → Type 0) →
+    Ends file before after outcome → CountsServing source source' sink sink' outcome → Told (fault_told outcome) →
+    ReplayCauses (status_of outcome) file before after source source' sink sink' Told
+causes (Ok done) file before after source source' sink sink' Told ends counts told = record {
   done = λ _. ends;
   bad_event = λ e. absurd (omega arith);
   read_fault = λ e. absurd (omega arith);
   no_read_fault = λ _. counts.0;
   write_fault = λ e. absurd (omega arith);
   no_write_fault = λ _. counts.1;
+  no_memory = λ e. absurd (omega arith);
   too_long = λ e. absurd (omega arith);
   complete = λ all e a b c. end_told Ended file before after ends all e;
 }
-causes (Err (fault.BadEvent line)) file before after source source' sink sink' ends counts = record {
+causes (Err (fault.BadEvent line)) file before after source source' sink sink' Told ends counts told = record {
   done = λ e. absurd (omega arith);
-  bad_event = λ _. (line, ends);
+  bad_event = λ _. (line, ends, told);
   read_fault = λ e. absurd (omega arith);
   no_read_fault = λ _. counts.0;
   write_fault = λ e. absurd (omega arith);
   no_write_fault = λ _. counts.1;
+  no_memory = λ e. absurd (omega arith);
   too_long = λ e. absurd (omega arith);
   complete = λ all e a b c. end_told (BadEvent line) file before after ends all e;
 }
-causes (Err fault.ReadFault) file before after source source' sink sink' ends counts = record {
+causes (Err fault.ReadFault) file before after source source' sink sink' Told ends counts told = record {
   done = λ e. absurd (omega arith);
   bad_event = λ e. absurd (omega arith);
-  read_fault = λ _. (counts.0, ends);
+  read_fault = λ _. (counts.0, ends, told);
   no_read_fault = λ h. absurd (h refl);
   write_fault = λ e. absurd (omega arith);
   no_write_fault = λ _. counts.1;
+  no_memory = λ e. absurd (omega arith);
   too_long = λ e. absurd (omega arith);
   complete = λ all e a b c. absurd (a refl);
 }
-causes (Err fault.WriteFault) file before after source source' sink sink' ends counts = record {
+causes (Err fault.WriteFault) file before after source source' sink sink' Told ends counts told = record {
   done = λ e. absurd (omega arith);
   bad_event = λ e. absurd (omega arith);
   read_fault = λ e. absurd (omega arith);
   no_read_fault = λ _. counts.1;
-  write_fault = λ _. counts.0;
+  write_fault = λ _. (counts.0, told);
   no_write_fault = λ h. absurd (h refl);
+  no_memory = λ e. absurd (omega arith);
   too_long = λ e. absurd (omega arith);
   complete = λ all e a b c. absurd (b refl);
 }
-causes (Err fault.NoMemory) file before after source source' sink sink' ends counts = record {
+causes (Err fault.NoMemory) file before after source source' sink sink' Told ends counts told = record {
   done = λ e. absurd (omega arith);
   bad_event = λ e. absurd (omega arith);
   read_fault = λ e. absurd (omega arith);
   no_read_fault = λ _. counts.0;
   write_fault = λ e. absurd (omega arith);
   no_write_fault = λ _. counts.1;
+  no_memory = λ _. told;
   too_long = λ e. absurd (omega arith);
   complete = λ all e a b c. absurd (c refl);
 }
-causes (Err fault.TooLong) file before after source source' sink sink' ends counts = record {
+causes (Err fault.TooLong) file before after source source' sink sink' Told ends counts told = record {
   done = λ e. absurd (omega arith);
   bad_event = λ e. absurd (omega arith);
   read_fault = λ e. absurd (omega arith);
   no_read_fault = λ _. counts.0;
   write_fault = λ e. absurd (omega arith);
   no_write_fault = λ _. counts.1;
-  too_long = λ _. ends;
+  no_memory = λ e. absurd (omega arith);
+  too_long = λ _. (ends, told);
   complete = λ all e a b c. end_told TooLong file before after ends all e;
 }

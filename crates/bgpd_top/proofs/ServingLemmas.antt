@@ -15,7 +15,7 @@ use Rattle.bgpd_top.specs.Serving.{Served, Ends}
 use Rattle.bgpd_top.specs.declared.replay.WorldFault.{WorldFault}
 use Rattle.bgpd_top.specs.declared.replay.WorldFault.TheVariants as world
 
-append_none : (known : Option (List ℕ)) → known ≡ append_known known []
+pub append_none : (known : Option (List ℕ)) → known ≡ append_known known []
 append_none None = refl
 append_none (Some bytes) = ap Some (sym (append-nil bytes))
 

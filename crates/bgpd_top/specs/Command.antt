@@ -1,7 +1,7 @@
 -- The commands, and what each status means.
-use Rattle.std.specs.Prelude.{◌≡◌, ◌≢◌, ℕ, List, [], ◌∷◌, ◌++◌, Option, None, Some, Result, Ok, Err, codes, decimal, bytes_eq, if◌then◌else◌}
+use Rattle.std.specs.Prelude.{◌≡◌, ◌≢◌, ◌<◌, ℕ, List, [], ◌∷◌, ◌++◌, Option, None, Some, Result, Ok, Err, codes, decimal, bytes_eq, if◌then◌else◌}
 use Rattle.std.specs.Io.KnownBytes.{append_known}
-use Rattle.io_edge.specs.Faults.{Rose}
+use Rattle.io_edge.specs.Faults.{Rose, last_count}
 use Rattle.event_text.specs.Grammar.{FileEnd, FileEvents, Ended, BadEvent, TooLong}
 use Rattle.bgpd_top.specs.Transcript.{Transcribes, TranscribesFront}
 use Rattle.bgpd_top.specs.declared.serving.ServeFault.{ServeFault}
@@ -39,10 +39,11 @@ fault_text fault.WriteFault = codes "write fault\n"
 fault_text fault.NoMemory = codes "no memory\n"
 fault_text fault.TooLong = codes "too long\n"
 
--- a text was written to a sink, unless it failed
+-- a text was written to a sink, where its count of faults did not rise and isn't at its last value
 abbrev pub Tells : ℕ → ℕ → Option (List ℕ) → Option (List ℕ) → List ℕ → Type 0
-Tells count count' before after text = count' ≡ count → after ≡ append_known before text
+Tells count count' before after text = count' ≡ count → count < last_count → after ≡ append_known before text
 
+-- what stands on standard error behind each way to end
 abbrev pub fault_told : Result (Unit {0}) ServeFault → List ℕ
 fault_told (Ok _) = []
 fault_told (Err fault) = fault_text fault
@@ -53,20 +54,22 @@ status_of_end Ended = 0
 status_of_end (BadEvent line) = 3
 status_of_end TooLong = 8
 
--- Each status of `replay` with its cause, over the events of the source's bytes, what the sink had and has, and the
--- counts of faults of both.
-pub record ReplayCauses (status : ℕ) (file : Option FileEvents) (before after : Option (List ℕ)) (source source' sink sink' : ℕ) : Type 0 where
+-- Each status of `replay` with its cause and with its text on standard error, over the events of the source's bytes,
+-- what the sink had and has, and the counts of faults of both.
+pub record ReplayCauses (status : ℕ) (file : Option FileEvents) (before after : Option (List ℕ)) (source source' sink sink' : ℕ) (Told : List ℕ → Type 0) : Type 0 where
   -- the file was read to its end, and the transcript of all its events was written
   pub done : status ≡ 0 → Transcribes Ended file before after
   -- the first line that isn't of the grammar was reached, behind the transcript of the events before it
-  pub bad_event : status ≡ 3 → (line : ℕ) × Transcribes (BadEvent line) file before after
+  pub bad_event : status ≡ 3 → (line : ℕ) × Transcribes (BadEvent line) file before after × Told (fault_text (fault.BadEvent line))
   -- the source failed, behind the transcript of the first events
-  pub read_fault : status ≡ 4 → Rose source source' × TranscribesFront file before after
+  pub read_fault : status ≡ 4 → Rose source source' × TranscribesFront file before after × Told (fault_text fault.ReadFault)
   pub no_read_fault : status ≢ 4 → source' ≡ source
   -- the sink failed
-  pub write_fault : status ≡ 5 → Rose sink sink'
+  pub write_fault : status ≡ 5 → Rose sink sink' × Told (fault_text fault.WriteFault)
   pub no_write_fault : status ≢ 5 → sink' ≡ sink
+  -- memory ran out
+  pub no_memory : status ≡ 7 → Told (fault_text fault.NoMemory)
   -- a limit was passed, behind the transcript of the events before it
-  pub too_long : status ≡ 8 → Transcribes TooLong file before after
+  pub too_long : status ≡ 8 → Transcribes TooLong file before after × Told (fault_text fault.TooLong)
   -- where nothing failed and memory was there, the status is that of the file's end
   pub complete : (all : FileEvents) → file ≡ Some all → status ≢ 4 → status ≢ 5 → status ≢ 7 → status ≡ status_of_end all.end

@@ -1,5 +1,6 @@
 ghost use Rattle.std.specs.Prelude.{◌≡◌, ◌≢◌, ◌↔◌, ℕ, List, Some, None, Ok, Err, map, codes, option_map, OnOk, IfErr, string_bytes};
 ghost use Rattle.std.specs.Io.KnownBytes.{append_known};
+ghost use Rattle.io_edge.specs.Faults.{CountsFailure};
 ghost use Rattle.bgpd_top.specs.Ahead.{events_of_file};
 ghost use Rattle.bgpd_top.specs.Serving.{Ends, CountsServing};
 ghost use Rattle.bgpd_top.specs.Command.{word_command, command_of, status_of, fault_text, fault_told, Tells, ReplayCauses};
@@ -39,7 +40,7 @@ const VERSION: &str = "bgpd 0.1\n";
 /// of events, which `line N: bad event` tells. 4: the source failed, `read fault`. 5: the sink `out` failed,
 /// `write fault`. 7: memory ran out, `no memory`. 8: a line or the file is past its limit, `too long`. A fault of `err`
 /// changes no status. Nothing is used of the files, the nets, the kernel and the clock yet.
-#[tactic(auto, using(crate::proofs::Causes::causes))]
+#[tactic(auto, using(crate::proofs::Causes::causes, crate::proofs::ServingLemmas::append_none))]
 pub fn bgpd_main<F: Files, I: Source, O: Sink, E: Sink, N: PeerNet, K: Kernel, C: Clock>(
     alloc: Global,
     words: &[String],
@@ -58,9 +59,11 @@ pub fn bgpd_main<F: Files, I: Source, O: Sink, E: Sink, N: PeerNet, K: Kernel, C
     // Each status of `replay` with its cause.
     ensures replay { command_of (map string_bytes words.now) ≡ Some Command.Replay →
         ReplayCauses result (option_map events_of_file (I.left input.old)) (O.written out.old) (O.written out.new)
-        (I.faults input.old) (I.faults input.new) (O.faults out.old) (O.faults out.new) }
+        (I.faults input.old) (I.faults input.new) (O.faults out.old) (O.faults out.new)
+        (Tells (E.faults err.old) (E.faults err.new) (E.written err.old) (E.written err.new)) }
 
     // What the other commands print.
+    ensures shown { result ≡ 2 → Tells (E.faults err.old) (E.faults err.new) (E.written err.old) (E.written err.new) usage_text }
     ensures help { command_of (map string_bytes words.now) ≡ Some Command.Help → result ≡ 0 →
         O.written out.new ≡ append_known (O.written out.old) help_text }
     ensures version { command_of (map string_bytes words.now) ≡ Some Command.Version → result ≡ 0 →
@@ -72,11 +75,17 @@ pub fn bgpd_main<F: Files, I: Source, O: Sink, E: Sink, N: PeerNet, K: Kernel, C
     };
     match run(alloc, command, input, out) {
         Ok(()) => 0,
-        Err(fault) => {
-            let _ = report(err, fault);
-            status_of(fault)
-        }
+        Err(fault) => fault_status(err, fault),
     }
+}
+
+/// Tells a fault on standard error, and answers its status.
+fn fault_status<E: Sink>(err: &mut E, fault: ServeFault) -> u8
+    ensures status { result ≡ status_of (Err fault) }
+    ensures told { Tells (E.faults err.old) (E.faults err.new) (E.written err.old) (E.written err.new) (fault_text fault) }
+{
+    let _ = report(err, fault);
+    status_of(fault)
 }
 
 fn command_of(words: &[String]) -> Option<Command>
@@ -160,7 +169,8 @@ fn status_of(fault: ServeFault) -> u8
 
 /// Tells a fault on standard error.
 fn report<E: Sink>(err: &mut E, fault: ServeFault) -> Result<(), Failed>
-    ensures { OnOk result (E.written err.new ≡ append_known (E.written err.old) (fault_text fault)) }
+    ensures told { OnOk result (E.written err.new ≡ append_known (E.written err.old) (fault_text fault)) }
+    ensures count { CountsFailure (E.faults err.old) (E.faults err.new) result }
 {
     match fault {
         ServeFault::BadEvent(line) => report_line(err, line),
@@ -172,7 +182,8 @@ fn report<E: Sink>(err: &mut E, fault: ServeFault) -> Result<(), Failed>
 }
 
 fn report_line<E: Sink>(err: &mut E, line: u32) -> Result<(), Failed>
-    ensures { OnOk result (E.written err.new ≡ append_known (E.written err.old) (fault_text (ServeFault.BadEvent line))) }
+    ensures told { OnOk result (E.written err.new ≡ append_known (E.written err.old) (fault_text (ServeFault.BadEvent line))) }
+    ensures count { CountsFailure (E.faults err.old) (E.faults err.new) result }
 {
     let mut buffer = Buffer::new();
     let number = buffer.format(line);

@@ -1,7 +1,7 @@
 -- What a text of the configuration language says. So far the language has four statements, one a line.
-use Rattle.std.specs.Prelude.{◌≡◌, ℕ, ◌+◌, ◌^◌, Bool, true, false, ◌&&◌, ◌||◌, List, [], ◌∷◌, ◌++◌, length, filter, map, Option, Some, None, option_map, option_and_then, is_some, Result, Ok, Err, if◌then◌else◌, ◌==◌, nat_lt, nat_le, bytes_eq, codes}
+use Rattle.std.specs.Prelude.{◌≡◌, ℕ, ◌+◌, ◌^◌, Bool, true, false, ◌&&◌, ◌||◌, List, [], ◌∷◌, length, filter, map, Option, Some, None, option_map, option_and_then, Result, Ok, Err, if◌then◌else◌, ◌==◌, nat_lt, nat_le, bytes_eq, codes}
 use Rattle.std.specs.List.{slice_split}
-use Rattle.std.specs.Option.{option_map_or, ok_or}
+use Rattle.std.specs.Option.{option_map_or}
 use Rattle.std.specs.BTreeMap.{insert_entry}
 use Rattle.net_base.specs.declared.addr.Family.{Family}
 use Rattle.net_base.specs.declared.addr.Family.TheVariants.{V4, V6}
@@ -10,7 +10,6 @@ use Rattle.net_base.specs.declared.prefix.Prefix.{Prefix}
 use Rattle.net_base.specs.declared.conf.ConfFault.{ConfFault}
 use Rattle.net_base.specs.declared.conf.ConfError.{ConfError}
 use Rattle.net_base.specs.declared.conf.ConfError.TheVariants.{Fault, NoMemory}
-use Rattle.net_base.specs.declared.conf.ConfKind.{ConfKind}
 use Rattle.net_base.specs.declared.conf.ConfKind.TheVariants.{NoAs, NoRouterId, NotBuilt}
 use Rattle.net_base.specs.Number.{number_of}
 use Rattle.net_base.specs.Addr.{read_addr}

@@ -1,5 +1,5 @@
 -- A show changes nothing of what a history says.
-use Rattle.std.proofs.Common.{◌≡◌, ℕ, Bool, true, List, [], ◌∷◌, map, fold, Option, Some, None, refl, sym, ap, ◌∙◌, inl, cond}
+use Rattle.std.proofs.Common.{◌≡◌, ℕ, true, List, [], ◌∷◌, map, fold, Option, Some, None, refl, sym, ap, ◌∙◌, inl, cond}
 use Rattle.attr_model.specs.declared.row.RouteRow.{RouteRow}
 use Rattle.core_msgs.specs.declared.answer.Answer.{Answer}
 use Rattle.core_msgs.specs.declared.answer.Line.TheVariants as line
@@ -7,7 +7,7 @@ use Rattle.core_msgs.specs.declared.answer.Row.TheVariants as row
 use Rattle.core_msgs.specs.declared.event.Event.TheVariants.{Ctl}
 use Rattle.route_world.specs.World.{World, loc_rib}
 use Rattle.run_record.specs.Run.{History, generation, generation_told, under_way, under_way_told, world}
-use Rattle.run_record.specs.Answers.{are_show_rib, show_rib_answer, refused, answer_to}
+use Rattle.run_record.specs.Answers.{are_show_rib, show_rib_answer, refused}
 use Rattle.core_msgs.specs.declared.answer.Refusal.TheVariants as refusal
 use Rattle.cores_link.specs.declared.accepted.Accepted.{Accepted}
 use Rattle.cores_link.specs.Standing.{AcceptedBy, Follows}
@@ -29,6 +29,7 @@ pub show_follows : (a : Accepted) (words : List (List ℕ)) (answer : Answer) �
     ((h : History) → AcceptedBy a h → answer ≡ show_rib_answer (under_way h) (world h)) → Follows a a (Ctl words) answer
 show_follows a words answer is_show rows h by =
     let shown : answer ≡ show_rib_answer (under_way h) (world h) = rows h by in
-    let keeps : Keeps (under_way h) (generation h) answer = rw shown (show_keeps (under_way h) (generation h) (world h)) in
-    ( inl (shown ∙ sym (ap (λ b. cond b (show_rib_answer (under_way h) (world h)) (refused refusal.NotBuilt)) is_show)),
-      record { conf = by.conf; generation = by.generation ∙ sym keeps.generation; under_way = by.under_way ∙ sym keeps.under_way } )
+    let keeps : Keeps (under_way h) (generation h) answer = rw shown (show_keeps (under_way h) (generation h) (world h)) in (
+      inl (shown ∙ sym (ap (λ b. cond b (show_rib_answer (under_way h) (world h)) (refused refusal.NotBuilt)) is_show)),
+      record { conf = by.conf; generation = by.generation ∙ sym keeps.generation; under_way = by.under_way ∙ sym keeps.under_way },
+    )

@@ -1,10 +1,10 @@
 -- The Router stands for a history: what it keeps is what the history says.
-use Rattle.std.specs.Prelude.{◌≡◌, ℕ, ◌+◌, ◌-◌, ◌^◌, Bool, true, false, List, [], ◌∷◌, length, min, Option, Some, None}
+use Rattle.std.specs.Prelude.{◌≡◌, ℕ, ◌+◌, ◌-◌, ◌^◌, Bool, false, [], ◌∷◌, length, min, Option, Some, None}
 use Rattle.core_msgs.specs.EventText.{event_text}
 use Rattle.core_msgs.specs.declared.event.Event.{Event}
 use Rattle.core_msgs.specs.declared.answer.Answer.{Answer}
 use Rattle.core_msgs.specs.declared.answer.Part.TheVariants.{Reload}
-use Rattle.run_record.specs.Run.{History, Step, under_way}
+use Rattle.run_record.specs.Run.{History}
 use Rattle.run_record.specs.Answers.{Answers}
 use Rattle.cores_link.specs.declared.router.Router.{Router}
 use Rattle.cores_link.specs.declared.router.Quiet.{Quiet}

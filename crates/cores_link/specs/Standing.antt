@@ -1,12 +1,10 @@
 -- The Router stands for a history: what it keeps is what the history says.
-use Rattle.std.specs.Prelude.{◌≡◌, ℕ, ◌+◌, ◌-◌, ◌^◌, Bool, true, false, List, [], ◌∷◌, length, min, Option, Some, None, if◌then◌else◌}
-use Rattle.core_msgs.specs.EventText.{event_text}
+use Rattle.std.specs.Prelude.{◌≡◌, ℕ, Bool, true, false, ◌∷◌, Option, Some, None}
 use Rattle.core_msgs.specs.declared.event.Event.{Event}
 use Rattle.core_msgs.specs.declared.answer.Answer.{Answer}
 use Rattle.run_record.specs.Answers.{Answers}
 use Rattle.run_record.specs.Run.{History, Step, conf, generation, under_way}
 use Rattle.cores_link.specs.declared.accepted.Accepted.{Accepted}
-use Rattle.cores_link.specs.Generations.{accepted_generation}
 
 -- the generation that is under way
 abbrev pub generation_if : Bool → ℕ → Option ℕ

@@ -20,7 +20,6 @@ const MOST_BYTES: usize = 1_048_576;
 /// The most `network` lines of a text.
 const MOST_NETWORKS: u32 = 4096;
 
-
 /// Reads a configuration text.
 ///
 /// The error is the first fault of the text, or `NoMemory`.
@@ -276,10 +275,7 @@ fn whole_text_lacks(kind: ConfKind) -> ConfError
     ConfError::Fault(ConfFault { line: 0, kind })
 }
 
-fn networks_of(
-    alloc: Global,
-    networks: BTreeMap<Prefix, Network>,
-) -> Result<Vec<Network>, NoMemory>
+fn networks_of(alloc: Global, networks: BTreeMap<Prefix, Network>) -> Result<Vec<Network>, NoMemory>
     ensures { IfOk result (λ found. found.items ≡ map (λ e. e.1) networks.entries) }
 {
     networks.values().copied().collect(alloc)

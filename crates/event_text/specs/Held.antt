@@ -1,5 +1,5 @@
 -- What the lines that are held spell.
-use Rattle.std.specs.Prelude.{◌≡◌, ℕ, ◌+◌, ◌&&◌, not, Bool, true, false, List, Option, Some, None, Result, Ok, Err, if◌then◌else◌}
+use Rattle.std.specs.Prelude.{◌≡◌, ℕ, ◌+◌, ◌&&◌, not, Bool, true, List, Result, Ok, Err, if◌then◌else◌}
 use Rattle.std.specs.Option.{ok_or}
 use Rattle.core_msgs.specs.declared.event.Event.{Event}
 use Rattle.core_msgs.specs.declared.event.Event.TheVariants.{Reload}

@@ -1,5 +1,3 @@
 pub mod Grammar
-
-
 pub mod Held
 pub mod Lines

@@ -1,7 +1,6 @@
 -- Worlds: what a speaker has configured and holds, and the tables that follow from it by plain recomputation.
-use Rattle.std.specs.Prelude.{ℕ, false, List, [], map, Option, None}
+use Rattle.std.specs.Prelude.{false, List, [], map, None}
 use Rattle.net_base.specs.declared.addr.Family.{Family}
-use Rattle.net_base.specs.declared.prefix.Prefix.{Prefix}
 use Rattle.net_base.specs.Bits.{addr_of}
 use Rattle.conf_tree.specs.declared.conf.Conf.{Conf}
 use Rattle.conf_tree.specs.declared.conf.Network.{Network}

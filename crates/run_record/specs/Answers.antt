@@ -1,5 +1,5 @@
 -- What each event is answered, by what happened before it.
-use Rattle.std.specs.Prelude.{◌≡◌, ◌⊎◌, ℕ, ◌+◌, Bool, false, ◌&&◌, List, [], ◌∷◌, ◌++◌, map, Option, Some, None, Result, Ok, Err, if◌then◌else◌, codes, bytes_eq}
+use Rattle.std.specs.Prelude.{◌≡◌, ◌⊎◌, ℕ, ◌+◌, Bool, false, ◌&&◌, List, [], ◌∷◌, map, Option, Some, None, Result, Ok, Err, if◌then◌else◌, codes, bytes_eq}
 use Rattle.net_base.specs.declared.conf.ConfFault.{ConfFault}
 use Rattle.conf_tree.specs.declared.conf.Conf.{Conf}
 use Rattle.conf_tree.specs.Language.{configuration}
@@ -13,7 +13,7 @@ use Rattle.core_msgs.specs.declared.answer.Refusal.{Refusal}
 use Rattle.core_msgs.specs.declared.answer.Refusal.TheVariants as refusal
 use Rattle.core_msgs.specs.declared.answer.Part.TheVariants as part
 use Rattle.route_world.specs.World.{World, loc_rib}
-use Rattle.run_record.specs.Run.{Step, History, generation, under_way, world}
+use Rattle.run_record.specs.Run.{History, generation, under_way, world}
 
 -- a last line without report lines before it
 abbrev pub only : Line → Answer

@@ -10,6 +10,6 @@ use Rattle.cores_link.proofs.reader.Reading.with_network.Goals as goal
 pub returns : goal.returns
 returns c =
     let Puts : (Prefix → Prefix → Ordering) → Type 0 = λ cmp.
-        c.insert.new.self.entries ≡ insert_entry cmp c.args.self.networks.entries c.args.network.prefix c.args.network in
+    c.insert.new.self.entries ≡ insert_entry cmp c.args.self.networks.entries c.args.network.prefix c.args.network in
     let entries : Puts prefix_cmp = subst Puts derived_prefix_cmp c.in_ok-insert.ensures.entries in
     grind (arith, common_steps, entries)
