@@ -1,7 +1,7 @@
 -- Each status of `replay` has its cause.
-use Rattle.std.proofs.Common.{◌≡◌, ◌≢◌, ℕ, List, ◌++◌, Option, None, Some, IfSome, Result, Ok, Err, refl, sym, ap, ◌∙◌, arith}
+use Rattle.std.proofs.Common.{◌≡◌, ℕ, List, Option, None, Some, Result, Ok, Err, refl, sym, ap, ◌∙◌, arith}
 use Rattle.event_text.specs.Grammar.{FileEnd, FileEvents, Ended, BadEvent, TooLong}
-use Rattle.bgpd_top.specs.Transcript.{Transcribes, TranscribesFront, events_of}
+use Rattle.bgpd_top.specs.Transcript.{Transcribes, events_of}
 use Rattle.bgpd_top.specs.Serving.{Ends, CountsServing}
 use Rattle.bgpd_top.specs.Command.{ReplayCauses, status_of, status_of_end, fault_told}
 use Rattle.bgpd_top.specs.declared.serving.ServeFault.{ServeFault}

@@ -1,12 +1,11 @@
 -- How the events to come change with each line that is read.
-use Rattle.std.proofs.Common.{◌≡◌, ℕ, ◌+◌, ◌-◌, ◌<◌, Bool, true, false, List, [], ◌∷◌, Option, None, Some, option_map, IfSome, cond, refl, sym, ap, ◌∙◌, arith, inl, inr, ◌⊎◌}
+use Rattle.std.proofs.Common.{◌≡◌, ℕ, ◌+◌, ◌-◌, ◌<◌, Bool, true, false, List, [], ◌∷◌, Option, None, Some, option_map, IfSome, cond, refl, sym, ap, ◌∙◌, arith, inl, inr}
 use Rattle.std.specs.Option.{option_map_or}
 use Rattle.io_edge.specs.declared.lines.LineFault.{LineFault}
-use Rattle.io_edge.specs.declared.lines.LineFault.TheVariants.{LineTooLong, FileTooLong}
 use Rattle.io_edge.specs.FileLines.{lines_in, fault_in}
 use Rattle.io_edge.specs.Reading.{Reading, ahead, lines_ahead, fault_ahead, Ends}
 use Rattle.event_text.specs.Grammar.{FileEnd, Ended, TooLong, BadEvent, FileEvents, events_from, no_more, with_event, line_event, is_reload, is_skipped, ends_text, with_line}
-use Rattle.std.proofs.Common.{not, ◌&&◌, Result, Ok, Err}
+use Rattle.std.proofs.Common.{not, ◌&&◌, Ok, Err}
 use Rattle.std.specs.Option.{ok_or}
 use Rattle.core_msgs.specs.declared.event.Event.{Event}
 use Rattle.core_msgs.specs.declared.event.Event.TheVariants.{Reload}

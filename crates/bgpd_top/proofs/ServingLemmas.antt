@@ -1,11 +1,10 @@
 -- What serving has done so far, at its beginning, behind each event, and at its end.
-use Rattle.std.proofs.Common.{◌≡◌, ℕ, List, [], ◌∷◌, ◌++◌, Option, None, Some, option_map, IfSome, Result, Ok, Err, refl, sym, ap, ◌∙◌, append_assoc, append-nil}
+use Rattle.std.proofs.Common.{◌≡◌, ℕ, List, [], ◌∷◌, ◌++◌, Option, None, Some, option_map, IfSome, Err, refl, sym, ap, ◌∙◌, append_assoc, append-nil}
 use Rattle.std.specs.Io.KnownBytes.{append_known}
 use Rattle.core_msgs.specs.declared.event.Event.{Event}
-use Rattle.event_text.specs.Grammar.{FileEnd, FileEvents, no_more, with_event, Ended, BadEvent, TooLong}
+use Rattle.event_text.specs.Grammar.{FileEnd, FileEvents, no_more, with_event, BadEvent, TooLong}
 use Rattle.event_text.specs.Lines.{answer_text}
-use Rattle.run_record.specs.Run.{History, Step}
-use Rattle.run_record.specs.Answers.{IsRun, Answers}
+use Rattle.run_record.specs.Run.{History}
 use Rattle.cores_link.specs.declared.router.Router.{Router}
 use Rattle.cores_link.specs.Routers.{Stands}
 use Rattle.cores_link.specs.Standing.{step}

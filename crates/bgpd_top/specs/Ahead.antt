@@ -1,6 +1,5 @@
 -- The events that a reader of an event file has still to give.
-use Rattle.std.specs.Prelude.{◌≡◌, ℕ, ◌+◌, Bool, true, false, List, [], ◌∷◌, Option, None, Some, option_map, if◌then◌else◌}
-use Rattle.std.specs.Option.{option_map_or}
+use Rattle.std.specs.Prelude.{ℕ, Bool, true, false, List, Option, None, Some, option_map, if◌then◌else◌}
 use Rattle.io_edge.specs.declared.lines.LineFault.{LineFault}
 use Rattle.io_edge.specs.FileLines.{lines_in, fault_in}
 use Rattle.core_msgs.specs.declared.event.Event.{Event}

@@ -1,8 +1,8 @@
 -- What a reader of events has still to give.
-use Rattle.std.specs.Prelude.{◌≡◌, ℕ, ◌-◌, Bool, true, false, List, [], ◌∷◌, Option, None, Some, option_map, IfSome, ◌⊎◌, Result, Ok, Err}
+use Rattle.std.specs.Prelude.{◌≡◌, ℕ, ◌-◌, Bool, false, List, ◌∷◌, Option, None, Some, option_map, ◌⊎◌}
 use Rattle.io_edge.specs.declared.lines.LineFault.{LineFault}
 use Rattle.io_edge.specs.declared.lines.LineFault.TheVariants.{LineTooLong, FileTooLong}
-use Rattle.io_edge.specs.Reading.{lines_ahead, fault_ahead, ahead, Ends}
+use Rattle.io_edge.specs.Reading.{lines_ahead, fault_ahead, Ends}
 use Rattle.event_text.specs.Grammar.{FileEvents}
 use Rattle.event_text.specs.declared.event.LinesHeld.{LinesHeld}
 use Rattle.bgpd_top.specs.Ahead.{events_to_come, events_of_file, held_then_come}

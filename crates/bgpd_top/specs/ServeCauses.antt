@@ -1,5 +1,5 @@
 -- How the faults of serving come from below.
-use Rattle.std.specs.Prelude.{◌≡◌, ℕ, List, ◌∷◌, Option, Result, Ok, Err}
+use Rattle.std.specs.Prelude.{◌≡◌, ℕ, List, ◌∷◌, Option, Result, Err}
 use Rattle.std.specs.Io.KnownBytes.{append_known}
 use Rattle.io_edge.specs.Faults.{Rose}
 use Rattle.core_msgs.specs.declared.event.Event.{Event}

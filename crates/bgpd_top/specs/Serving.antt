@@ -1,8 +1,8 @@
 -- What a call that serves events has done so far.
-use Rattle.std.specs.Prelude.{◌≡◌, ℕ, List, [], ◌∷◌, Option, None, Some, option_map, IfSome, Result, Ok, Err}
+use Rattle.std.specs.Prelude.{◌≡◌, ℕ, List, Option, option_map, Result, Ok, Err}
 use Rattle.std.specs.Io.KnownBytes.{append_known}
 use Rattle.io_edge.specs.Faults.{Rose}
-use Rattle.event_text.specs.Grammar.{FileEnd, FileEvents, Ended, BadEvent, TooLong}
+use Rattle.event_text.specs.Grammar.{FileEvents, Ended, BadEvent, TooLong}
 use Rattle.run_record.specs.Run.{History}
 use Rattle.run_record.specs.Answers.{IsRun}
 use Rattle.cores_link.specs.declared.router.Router.{Router}

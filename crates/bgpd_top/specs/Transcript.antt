@@ -1,10 +1,10 @@
 -- What is written for an event file: the transcript of its events.
-use Rattle.std.specs.Prelude.{◌≡◌, ℕ, List, [], ◌∷◌, ◌++◌, Option, None, Some, option_map, IfSome}
+use Rattle.std.specs.Prelude.{◌≡◌, ℕ, List, [], ◌∷◌, ◌++◌, Option, IfSome}
 use Rattle.std.specs.Io.KnownBytes.{append_known}
 use Rattle.core_msgs.specs.declared.event.Event.{Event}
-use Rattle.event_text.specs.Grammar.{FileEnd, FileEvents, no_more}
+use Rattle.event_text.specs.Grammar.{FileEnd, FileEvents}
 use Rattle.event_text.specs.Lines.{answer_text}
-use Rattle.run_record.specs.Run.{History, Step}
+use Rattle.run_record.specs.Run.{History}
 use Rattle.run_record.specs.Answers.{IsRun}
 
 -- the events of a history, the oldest first
