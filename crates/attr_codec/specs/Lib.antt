@@ -1,0 +1,16 @@
+pub mod Ascending
+pub mod Flags
+pub mod Cut
+pub mod Field
+pub mod Said
+pub mod Path
+pub mod Values
+pub mod Communities
+pub mod Large
+pub mod Prefixes
+pub mod Reach
+pub mod Fault
+pub mod Unknown
+pub mod Parts
+pub mod Gives
+pub mod Read

@@ -1,0 +1,78 @@
+//! COMMUNITIES and LARGE_COMMUNITY.
+
+ghost use Rattle.std.specs.Prelude.{◌≡◌, Some, None, IfOk, MatchResult};
+ghost use Rattle.std.specs.Ordering.{nat_cmp};
+ghost use Rattle.attr_model.specs.Valid.{large_cmp};
+ghost use Rattle.attr_codec.specs.Field.{attributes_of};
+ghost use Rattle.attr_codec.specs.Ascending.{ascending};
+ghost use Rattle.attr_codec.specs.Path.{numbers_of};
+ghost use Rattle.attr_codec.specs.Communities.{communities_said, large_said};
+ghost use Rattle.attr_codec.specs.Large.{large_at, larges_of};
+
+use crate::ascending::{insert_community, insert_large};
+use crate::said::{Flags, Said, bytes_said};
+use attr_model::{CommunityList, LargeList};
+use net_base::{Items, NoMemory};
+use std::alloc::Global;
+use wire_buf::{Cursor, Short};
+
+// The communities that stand in a value, in order.
+fn read_communities(alloc: Global, value: &[u8]) -> Result<CommunityList, NoMemory>
+    ensures { IfOk result (λ list. list ≡ ascending nat_cmp (numbers_of 4 value.now)) }
+{
+    let mut list = Vec::new(alloc);
+    let mut left = Cursor::new(value);
+    while let Ok(community) = left.u32() {
+        insert_community(&mut list, community)?;
+    }
+    Ok(Items::from_vec(list))
+}
+
+/// COMMUNITIES: numbers of four bytes each, at least one (RFC 1997, RFC 7606 section 7.8).
+#[tactic(auto, unfolding(crate::specs::Communities::communities_said))]
+pub(crate) fn communities(alloc: Global, field: &[u8]) -> Result<Said<CommunityList>, NoMemory>
+    ensures { IfOk result (λ said. said ≡ communities_said (attributes_of field.now)) }
+{
+    match bytes_said(field, 8, Flags::OptionalTransitive) {
+        Said::Nothing => Ok(Said::Nothing),
+        Said::Malformed => Ok(Said::Malformed),
+        Said::Value(value) if value.is_empty() || value.len() % 4 != 0 => Ok(Said::Malformed),
+        Said::Value(value) => Ok(Said::Value(read_communities(alloc, value)?)),
+    }
+}
+
+// The next large community.
+#[tactic(auto, unfolding(crate::specs::Large::large_at))]
+fn next_large(left: &mut Cursor<'_>) -> Result<(u32, u32, u32), Short>
+    ensures { MatchResult result (λ large. large_at left.old ≡ Some (large, left.new)) (λ _. large_at left.old ≡ None) }
+{
+    let administrator = left.u32()?;
+    let first = left.u32()?;
+    let second = left.u32()?;
+    Ok((administrator, first, second))
+}
+
+// The large communities that stand in a value, in order.
+fn read_larges(alloc: Global, value: &[u8]) -> Result<LargeList, NoMemory>
+    ensures { IfOk result (λ list. list ≡ ascending large_cmp (larges_of value.now)) }
+{
+    let mut list = Vec::new(alloc);
+    let mut left = Cursor::new(value);
+    while let Ok(large) = next_large(&mut left) {
+        insert_large(&mut list, large)?;
+    }
+    Ok(Items::from_vec(list))
+}
+
+/// LARGE_COMMUNITY: three numbers of four bytes each, at least once (RFC 8092 sections 3 and 6).
+#[tactic(auto, unfolding(crate::specs::Communities::large_said))]
+pub(crate) fn large(alloc: Global, field: &[u8]) -> Result<Said<LargeList>, NoMemory>
+    ensures { IfOk result (λ said. said ≡ large_said (attributes_of field.now)) }
+{
+    match bytes_said(field, 32, Flags::OptionalTransitive) {
+        Said::Nothing => Ok(Said::Nothing),
+        Said::Malformed => Ok(Said::Malformed),
+        Said::Value(value) if value.is_empty() || value.len() % 12 != 0 => Ok(Said::Malformed),
+        Said::Value(value) => Ok(Said::Value(read_larges(alloc, value)?)),
+    }
+}

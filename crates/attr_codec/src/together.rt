@@ -1,0 +1,104 @@
+//! What the attributes of a field say together, made from what each says.
+
+ghost use Rattle.std.specs.Prelude.{◌≡◌, IfOk};
+ghost use Rattle.attr_codec.specs.Field.{attributes_of};
+ghost use Rattle.attr_codec.specs.Parts.{numbers_said, with_as4_path, paths_said, lists_said, partial_bit, partial_bits};
+
+use crate::communities::{communities, large};
+use crate::field::first_of;
+use crate::join::join_paths;
+use crate::parts::{Lists, Numbers, Paths};
+use crate::said::{Flags, Said};
+use crate::unknown::unknown;
+use crate::values;
+use attr_model::Path;
+use net_base::{Items, NoMemory};
+use std::alloc::Global;
+
+/// The flag bit of attributes that some speaker on the way didn't know (RFC 4271 section 4.3).
+const PARTIAL: u8 = 0x20;
+
+pub(crate) fn numbers(external: bool, field: &[u8]) -> Numbers
+    ensures { result ≡ numbers_said external (attributes_of field.now) }
+{
+    let med = values::number(field, 4, Flags::Optional);
+    let local_pref = values::local_pref(external, field);
+    let atomic = values::atomic(field);
+    let malformed = med.is_malformed() || local_pref.is_malformed() || atomic.is_malformed();
+    Numbers {
+        med: med.value(),
+        local_pref: local_pref.value(),
+        atomic: atomic.value().is_some(),
+        malformed,
+    }
+}
+
+// AS_PATH, with AS4_PATH where that came and isn't ignored.
+fn join(
+    alloc: Global,
+    ignored: bool,
+    path: Said<Path>,
+    as4_path: Option<Path>,
+) -> Result<Option<Path>, NoMemory>
+    ensures { IfOk result (λ joined. joined ≡ with_as4_path ignored path as4_path) }
+{
+    match (path, as4_path) {
+        (Said::Value(path), Some(as4_path)) if !ignored => {
+            Ok(Some(join_paths(alloc, path, &as4_path)?))
+        }
+        (Said::Value(path), _) => Ok(Some(path)),
+        (Said::Nothing | Said::Malformed, _) => Ok(None),
+    }
+}
+
+pub(crate) fn paths(alloc: Global, as4: bool, field: &[u8]) -> Result<Paths, NoMemory>
+    ensures { IfOk result (λ paths. paths ≡ paths_said as4 (attributes_of field.now)) }
+{
+    let path = values::path(alloc, as4, field)?;
+    let as4_path = values::as4_path(alloc, as4, field)?;
+    let aggregator = values::aggregator(as4, field);
+    let as4_aggregator = values::as4_aggregator(as4, field);
+    let malformed_path = path.is_malformed() || as4_path.is_malformed();
+    let malformed_aggregator = aggregator.is_malformed() || as4_aggregator.is_malformed();
+    let aggregator = aggregator.value();
+    let as4_aggregator = as4_aggregator.value();
+    let ignored = values::is_as4_ignored(aggregator, as4_aggregator);
+    Ok(Paths {
+        path: join(alloc, ignored, path, as4_path.value())?,
+        aggregator: values::join_aggregators(aggregator, as4_aggregator),
+        malformed: malformed_path || malformed_aggregator,
+    })
+}
+
+pub(crate) fn lists(alloc: Global, field: &[u8]) -> Result<Lists, NoMemory>
+    ensures { IfOk result (λ lists. lists ≡ lists_said (attributes_of field.now)) }
+{
+    let communities = communities(alloc, field)?;
+    let large = large(alloc, field)?;
+    let malformed = communities.is_malformed() || large.is_malformed();
+    Ok(Lists {
+        communities: communities.value().unwrap_or(Items::new(alloc)),
+        large: large.value().unwrap_or(Items::new(alloc)),
+        unknown: unknown(alloc, field)?,
+        malformed,
+    })
+}
+
+// A bit for the partial bit of a type, where its attribute counts.
+fn bit(counts: bool, kind: u8, bit: u8, field: &[u8]) -> u8
+    ensures { result ≡ partial_bit counts kind bit (attributes_of field.now) }
+{
+    match first_of(field, kind) {
+        Some(attribute) if counts && attribute.flags & PARTIAL != 0 => bit,
+        _ => 0,
+    }
+}
+
+/// The partial bits of AGGREGATOR (1), COMMUNITIES (2) and LARGE_COMMUNITY (4).
+pub(crate) fn partial(paths: &Paths, lists: &Lists, field: &[u8]) -> u8
+    ensures { result ≡ partial_bits paths.now lists.now (attributes_of field.now) }
+{
+    bit(paths.aggregator.is_some(), 7, 1, field)
+        + bit(!lists.communities.is_empty(), 8, 2, field)
+        + bit(!lists.large.is_empty(), 32, 4, field)
+}
