@@ -1,5 +1,5 @@
 -- The commands, and what each status means.
-use Rattle.std.specs.Prelude.{◌≡◌, ◌≢◌, ◌<◌, ℕ, List, [], ◌∷◌, ◌++◌, Option, None, Some, Result, Ok, Err, codes, decimal, bytes_eq, if◌then◌else◌}
+use Rattle.std.specs.Prelude.{◌≡◌, ◌≢◌, ◌<◌, ◌⊎◌, ℕ, List, [], ◌∷◌, ◌++◌, Option, None, Some, Result, Ok, Err, codes, decimal, bytes_eq, if◌then◌else◌}
 use Rattle.std.specs.Io.KnownBytes.{append_known}
 use Rattle.io_edge.specs.Faults.{Rose, last_count}
 use Rattle.event_text.specs.Grammar.{FileEnd, FileEvents, Ended, BadEvent, TooLong}
@@ -54,9 +54,19 @@ status_of_end Ended = 0
 status_of_end (BadEvent line) = 3
 status_of_end TooLong = 8
 
+-- the statuses of `replay`
+abbrev pub IsReplayStatus : ℕ → Type 0
+IsReplayStatus status = (status ≡ 0) ⊎ ((status ≡ 3) ⊎ ((status ≡ 4) ⊎ ((status ≡ 5) ⊎ ((status ≡ 7) ⊎ (status ≡ 8)))))
+
+-- a command that prints a text is done, or the sink failed
+pub record PrintCauses (status : ℕ) (text : List ℕ) (before after : Option (List ℕ)) (sink sink' : ℕ) : Type 0 where
+  pub done : status ≡ 0 → (after ≡ append_known before text) × (sink' ≡ sink)
+  pub write_fault : status ≢ 0 → (status ≡ 5) × Rose sink sink'
+
 -- Each status of `replay` with its cause and with its text on standard error, over the events of the source's bytes,
 -- what the sink had and has, and the counts of faults of both.
 pub record ReplayCauses (status : ℕ) (file : Option FileEvents) (before after : Option (List ℕ)) (source source' sink sink' : ℕ) (Told : List ℕ → Type 0) : Type 0 where
+  pub known : IsReplayStatus status
   -- the file was read to its end, and the transcript of all its events was written
   pub done : status ≡ 0 → Transcribes Ended file before after
   -- the first line that isn't of the grammar was reached, behind the transcript of the events before it

@@ -3,7 +3,7 @@ ghost use Rattle.std.specs.Io.KnownBytes.{append_known};
 ghost use Rattle.io_edge.specs.Faults.{CountsFailure};
 ghost use Rattle.bgpd_top.specs.Ahead.{events_of_file};
 ghost use Rattle.bgpd_top.specs.Serving.{Ends, CountsServing};
-ghost use Rattle.bgpd_top.specs.Command.{word_command, command_of, status_of, fault_text, fault_told, Tells, ReplayCauses};
+ghost use Rattle.bgpd_top.specs.Command.{word_command, command_of, status_of, fault_text, Tells, ReplayCauses, PrintCauses};
 ghost use Rattle.bgpd_top.specs.Words.{usage_text, help_text, version_text};
 
 use crate::replay::EventReader;
@@ -40,7 +40,7 @@ const VERSION: &str = "bgpd 0.1\n";
 /// of events, which `line N: bad event` tells. 4: the source failed, `read fault`. 5: the sink `out` failed,
 /// `write fault`. 7: memory ran out, `no memory`. 8: a line or the file is past its limit, `too long`. A fault of `err`
 /// changes no status. Nothing is used of the files, the nets, the kernel and the clock yet.
-#[tactic(auto, using(crate::proofs::Causes::causes, crate::proofs::ServingLemmas::append_none))]
+#[tactic(auto, using(crate::proofs::Causes::causes, crate::proofs::Causes::prints, crate::proofs::ServingLemmas::append_none))]
 pub fn bgpd_main<F: Files, I: Source, O: Sink, E: Sink, N: PeerNet, K: Kernel, C: Clock>(
     alloc: Global,
     words: &[String],
@@ -64,10 +64,10 @@ pub fn bgpd_main<F: Files, I: Source, O: Sink, E: Sink, N: PeerNet, K: Kernel, C
 
     // What the other commands print.
     ensures shown { result ≡ 2 → Tells (E.faults err.old) (E.faults err.new) (E.written err.old) (E.written err.new) usage_text }
-    ensures help { command_of (map string_bytes words.now) ≡ Some Command.Help → result ≡ 0 →
-        O.written out.new ≡ append_known (O.written out.old) help_text }
-    ensures version { command_of (map string_bytes words.now) ≡ Some Command.Version → result ≡ 0 →
-        O.written out.new ≡ append_known (O.written out.old) version_text }
+    ensures help { command_of (map string_bytes words.now) ≡ Some Command.Help →
+        PrintCauses result help_text (O.written out.old) (O.written out.new) (O.faults out.old) (O.faults out.new) }
+    ensures version { command_of (map string_bytes words.now) ≡ Some Command.Version →
+        PrintCauses result version_text (O.written out.old) (O.written out.new) (O.faults out.old) (O.faults out.new) }
 {
     let Some(command) = command_of(words) else {
         let _ = err.write(USAGE.as_bytes());
@@ -121,6 +121,8 @@ fn run<I: Source, O: Sink>(
     ensures replay { command ≡ Command.Replay → Ends (option_map events_of_file (I.left input.old)) (O.written out.old) (O.written out.new) result }
     ensures counts { CountsServing (I.faults input.old) (I.faults input.new) (O.faults out.old) (O.faults out.new) result }
     ensures help { command ≡ Command.Help → OnOk result (O.written out.new ≡ append_known (O.written out.old) help_text) }
+    ensures fault { command ≢ Command.Replay → IfErr result (λ cause. cause ≡ ServeFault.WriteFault) }
+    ensures still { command ≢ Command.Replay → I.faults input.new ≡ I.faults input.old }
     ensures version { command ≡ Command.Version → OnOk result (O.written out.new ≡ append_known (O.written out.old) version_text) }
 {
     match command {
@@ -132,6 +134,7 @@ fn run<I: Source, O: Sink>(
 
 fn write_text<O: Sink>(out: &mut O, text: &str) -> Result<(), ServeFault>
     ensures written { OnOk result (O.written out.new ≡ append_known (O.written out.old) text.now) }
+    ensures fault { IfErr result (λ cause. cause ≡ ServeFault.WriteFault) }
     ensures counts { (n : ℕ) → CountsServing n n (O.faults out.old) (O.faults out.new) result }
 {
     match out.write(text.as_bytes()) {
