@@ -14,7 +14,7 @@ use Rattle.attr_codec.specs.Large.{large_at}
 use Rattle.attr_codec.specs.Path.{as_size, numbers_of, segment_of, segment_parts_at, segment_at}
 use Rattle.attr_codec.proofs.Cutting.{TakesBytes}
 
-guarded : {A : Type 0} (b : Bool) (y x : A) → cond b None (Some y) ≡ Some x → (b ≡ false) × (y ≡ x)
+pub guarded : {A : Type 0} (b : Bool) (y x : A) → cond b None (Some y) ≡ Some x → (b ≡ false) × (y ≡ x)
 guarded true y x e = absurd (none-some x e)
 guarded false y x e = (refl, cc)
 

@@ -4,3 +4,17 @@ pub mod Firsts
 pub mod Places
 pub mod Faults
 pub mod Kept
+pub mod Lengths
+pub mod Appends
+pub mod ItemsBack
+pub mod PrefixesBack
+pub mod Rows
+pub mod Gaps
+pub mod Gathered
+pub mod Ascended
+pub mod ValuesBack
+pub mod FieldBack
+pub mod Sending
+pub mod FieldSays
+pub mod Shorts
+pub mod FieldSplits

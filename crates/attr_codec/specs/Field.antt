@@ -1,7 +1,9 @@
 -- The attribute field of an UPDATE (RFC 4271 section 4.3).
-use Rattle.std.specs.Prelude.{ℕ, ◌==◌, if◌then◌else◌, bit_and, Bool, List, Option, Some, find}
+use Rattle.std.specs.Prelude.{◌≡◌, ℕ, ◌<◌, ◌^◌, ◌==◌, if◌then◌else◌, bit_and, Bool, List, [], ◌∷◌, ◌++◌, length, flat_map, Option, Some, None, find}
+use Rattle.std.specs.List.{AllByRecursion}
+use Rattle.byteorder.specs.Endian.{big_bytes}
 use Rattle.wire_buf.specs.Field.{◌>>=◌, number_at, bytes_at}
-use Rattle.attr_codec.specs.Cut.{cut}
+use Rattle.attr_codec.specs.Cut.{Cut, cut}
 
 -- One attribute as it stands in the field.
 pub record Attribute : Type 0 where
@@ -32,3 +34,20 @@ is_of kind attribute = attribute.kind == kind
 
 abbrev pub first_of : ℕ → List Attribute → Option Attribute
 first_of kind attributes = find (is_of kind) attributes
+
+-- An attribute as bytes: its flags, its type, the length of its value and the value.
+abbrev pub attribute_bytes : Attribute → List ℕ
+attribute_bytes attribute =
+    ((attribute.flags ∷ attribute.kind ∷ []) ++ big_bytes (length_size attribute.flags) (length attribute.value)) ++ attribute.value
+
+-- The length of the value has room in its bytes.
+abbrev pub HasItsLength : Attribute → Type 0
+HasItsLength attribute = length attribute.value < 256 ^ length_size attribute.flags
+
+-- The field is these attributes and a rest in front of which none stands, and which is empty where they are the whole field.
+pub record Spells (field : List ℕ) (c : Cut Attribute) : Type 0 where
+  pub rest : List ℕ
+  pub all : field ≡ flat_map attribute_bytes c.items ++ rest
+  pub each : AllByRecursion HasItsLength c.items
+  pub ends : attribute_at rest ≡ None
+  pub whole : c.whole ≡ (length rest == 0)

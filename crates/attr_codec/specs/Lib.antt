@@ -14,3 +14,7 @@ pub mod Unknown
 pub mod Parts
 pub mod Gives
 pub mod Read
+pub mod Written
+pub mod Size
+pub mod Width
+pub mod ReadBack

@@ -1,8 +1,11 @@
 -- AS paths as bytes (RFC 4271 section 4.3, AS_PATH; RFC 6793 section 3): AS numbers have two bytes or four.
-use Rattle.std.specs.Prelude.{ℕ, Bool, ◌*◌, ◌==◌, if◌then◌else◌, List, [], ◌∷◌, Option, Some, None}
+use Rattle.std.specs.Prelude.{ℕ, Bool, ◌*◌, ◌==◌, nat_lt, if◌then◌else◌, List, [], ◌∷◌, ◌++◌, length, flat_map, Option, Some, None}
+use Rattle.std.specs.List.{list_any}
+use Rattle.byteorder.specs.Endian.{big_bytes}
 use Rattle.wire_buf.specs.Field.{◌>>=◌, number_at, bytes_at}
 use Rattle.attr_model.specs.declared.path.Segment.{Segment}
 use Rattle.attr_model.specs.declared.path.Segment.TheVariants.{Set, Sequence}
+use Rattle.attr_model.specs.Valid.{numbers_of as listed}
 use Rattle.attr_codec.specs.Cut.{cut, all_items}
 
 -- how many bytes an AS number has
@@ -36,3 +39,31 @@ segment_at as4 bytes = do
 -- The path that a value is, or None where it is malformed.
 abbrev pub path_of : Bool → List ℕ → Option (List Segment)
 path_of as4 bytes = all_items (segment_at as4) bytes
+
+-- An AS number that has no room in two bytes, where 23456 stands for it (RFC 6793 section 9, AS_TRANS).
+abbrev pub exceeds : ℕ → Bool
+exceeds asn = nat_lt 65535 asn
+
+abbrev pub told_as : Bool → ℕ → ℕ
+told_as as4 asn = if as4 then asn else if exceeds asn then 23456 else asn
+
+abbrev pub as_bytes : Bool → ℕ → List ℕ
+as_bytes as4 asn = if as4 then big_bytes 4 asn else big_bytes 2 (told_as as4 asn)
+
+-- A segment as bytes: its type, how many numbers it lists, and these.
+abbrev pub kind_of_segment : Segment → ℕ
+kind_of_segment (Set numbers) = 1
+kind_of_segment (Sequence numbers) = 2
+
+abbrev pub segment_bytes : Bool → Segment → List ℕ
+segment_bytes as4 segment = (kind_of_segment segment ∷ length (listed segment) ∷ []) ++ flat_map (as_bytes as4) (listed segment)
+
+abbrev pub path_bytes : Bool → List Segment → List ℕ
+path_bytes as4 path = flat_map (segment_bytes as4) path
+
+-- some number of the path has no room in two bytes
+abbrev pub segment_exceeds : Segment → Bool
+segment_exceeds segment = list_any exceeds (listed segment)
+
+abbrev pub path_exceeds : List Segment → Bool
+path_exceeds path = list_any segment_exceeds path

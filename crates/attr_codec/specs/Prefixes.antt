@@ -1,6 +1,6 @@
 -- Prefixes and next hops as bytes (RFC 4271 section 4.3, RFC 4760 sections 3 and 5, RFC 2545 section 3).
-use Rattle.std.specs.Prelude.{ℕ, ◌+◌, ◌/◌, nat_lt, if◌then◌else◌, List, Option, Some, None}
-use Rattle.byteorder.specs.Endian.{big_number}
+use Rattle.std.specs.Prelude.{◌≡◌, ℕ, ◌+◌, ◌/◌, nat_lt, if◌then◌else◌, List, [], ◌∷◌, ◌++◌, take, flat_map, Option, Some, None}
+use Rattle.byteorder.specs.Endian.{big_number, big_bytes}
 use Rattle.wire_buf.specs.Field.{◌>>=◌, number_at, bytes_at}
 use Rattle.net_base.specs.declared.addr.Family.{Family}
 use Rattle.net_base.specs.declared.addr.Family.TheVariants.{V4, V6}
@@ -31,3 +31,16 @@ prefix_at family bytes = do
 -- The prefixes that a field is, or None where one of them isn't whole.
 abbrev pub prefixes_of : Family → List ℕ → Option (List Prefix)
 prefixes_of family bytes = all_items (prefix_at family) bytes
+
+-- A prefix as bytes: its length in bits, then the octets that hold them.
+abbrev pub addr_bytes : Family → ℕ → List ℕ
+addr_bytes family bits = big_bytes (octet_count family) bits
+
+abbrev pub prefix_bytes : Prefix → List ℕ
+prefix_bytes prefix = (prefix.len ∷ []) ++ take ((prefix.len + 7) / 8) (addr_bytes prefix.family prefix.bits)
+
+abbrev pub prefixes_bytes : List Prefix → List ℕ
+prefixes_bytes prefixes = flat_map prefix_bytes prefixes
+
+abbrev pub IsOf : Family → Prefix → Type 0
+IsOf family prefix = prefix.family ≡ family

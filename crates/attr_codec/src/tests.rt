@@ -1,9 +1,14 @@
+ghost use Rattle.std.specs.Prelude.{◌≡◌, IfOk};
+ghost use Rattle.attr_model.specs.Valid.{IsValid};
+ghost use Rattle.attr_codec.specs.Written.{HaveShortValues};
+
 use super::*;
-use attr_model::{Attrs, Segment};
+use attr_model::{Attrs, Path, Segment};
 use bgp_wire::Encoding;
-use net_base::{Addr, Family};
+use net_base::{Addr, Bytes, Family, Items, Prefix};
 use std::alloc::Global;
 use std::test::*;
+use wire_buf::Pipe;
 
 const EXTERNAL: Encoding = Encoding {
     v4: true,
@@ -148,4 +153,93 @@ fn notifications(rt: HostRuntime) {
             matches!(read_attrs(rt.alloc(), EXTERNAL, &bytes), Err(UpdateFault::Notify(it)) if it == sub)
         );
     }
+}
+
+// ORIGIN IGP, an empty path, 10.0.0.1 and an unknown attribute of type 200.
+fn route_with_unknown(alloc: Global) -> Result<Attrs, Fail>
+    ensures valid { IfOk result (λ attrs. IsValid attrs) }
+    ensures short { IfOk result (λ attrs. HaveShortValues EXTERNAL attrs) }
+{
+    let mut unknown = Items::new(alloc);
+    unknown.push((200, Bytes::from_slice(alloc, &[1])?))?;
+    Ok(Attrs {
+        origin: 0,
+        path: Path::new(alloc),
+        hop: Addr {
+            family: Family::V4,
+            bits: 0x0a00_0001,
+        },
+        med: None,
+        local_pref: None,
+        atomic: false,
+        aggregator: None,
+        communities: Items::new(alloc),
+        large: Items::new(alloc),
+        unknown,
+        partial: 0,
+        weight: 0,
+    })
+}
+
+// It is sent on with the partial bit.
+#[test]
+fn an_unknown_attribute_is_sent_on(rt: HostRuntime) -> Result<(), Fail> {
+    let attrs = route_with_unknown(rt.alloc())?;
+    let mut out = Pipe::new(rt.alloc());
+    write_attrs(EXTERNAL, &attrs, &mut out)?;
+    let wanted = [
+        0x40, 1, 1, 0, 0x40, 2, 0, 0x40, 3, 4, 10, 0, 0, 1, 0xe0, 200, 1, 1,
+    ];
+    assert_eq!(rt; out.peek(), wanted.as_slice());
+    assert_eq!(rt; attrs_size(EXTERNAL, &attrs), 18);
+    Ok(())
+}
+
+// 65002 behind 1010 or 1011 numbers of 65001: in 4096 bytes the first has room, and the second has none.
+#[test]
+fn the_longest_path(rt: HostRuntime) -> Result<(), Fail> {
+    let mut attrs = route_with_unknown(rt.alloc())?;
+    attrs.unknown.clear();
+    attrs.path.push(Segment::Sequence(Items::from_slice(rt.alloc(), &[65002])?))?;
+    for times in [128, 128, 128, 128, 128, 128, 128, 113, 1] {
+        attrs.path.prepend(rt.alloc(), 65001, times)?;
+    }
+    assert_eq!(rt; size(EXTERNAL, &attrs, 4), 4094);
+    attrs.path.prepend(rt.alloc(), 65001, 1)?;
+    assert_eq!(rt; size(EXTERNAL, &attrs, 4), 4098);
+    Ok(())
+}
+
+// 2001:db8::/32 from ::1.
+#[test]
+fn prefixes_of_ipv6(rt: HostRuntime) -> Result<(), Fail> {
+    let hop = Addr {
+        family: Family::V6,
+        bits: 1,
+    };
+    let db8 = Addr {
+        family: Family::V6,
+        bits: 0x2001_0db8 << 96,
+    };
+    let prefixes = [Prefix::new(db8, 32)];
+    assert_eq!(rt; prefixes_size(&prefixes), 5);
+    let mut out = Pipe::new(rt.alloc());
+    write_unreach(&prefixes, &mut out)?;
+    let wanted = [0x80, 15, 8, 0, 2, 1, 32, 0x20, 1, 0x0d, 0xb8];
+    assert_eq!(rt; out.peek(), wanted.as_slice());
+    out.take(11);
+    write_reach(hop, &prefixes, &mut out)?;
+    let wanted = [
+        0x80, 14, 26, 0, 2, 1, 16, 0, 0, 0, 0, 0, 0, 0, 0, 0, 0, 0, 0, 0, 0, 0, 1, 0, 32, 0x20, 1,
+        0x0d, 0xb8,
+    ];
+    assert_eq!(rt; out.peek(), wanted.as_slice());
+    Ok(())
+}
+
+#[test]
+fn laws() {
+    attributes_split();
+    attributes_read_back();
+    prefixes_read_back();
 }

@@ -1,0 +1,4 @@
+pub mod Bytes
+pub mod ReadBack
+pub mod Plain
+pub mod Stream

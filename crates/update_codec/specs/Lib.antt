@@ -1,1 +1,3 @@
 pub mod Update
+pub mod Written
+pub mod Held

@@ -1,11 +1,17 @@
-//! UPDATE messages.
+//! UPDATE messages, both ways.
 #![tactic(auto)]
 
+mod holding;
+mod out_update;
 mod reading;
 mod update;
+mod writing;
 
+pub use holding::{Routes, held, told};
+pub use out_update::OutUpdate;
 pub use reading::read_update;
 pub use update::{GroupList, Update};
+pub use writing::{fits, write_update};
 
 #[cfg(test)]
 mod tests;
