@@ -1,0 +1,7 @@
+pub mod DoubleNames
+pub mod Folds
+pub mod Orders
+pub mod Places
+pub mod Search
+pub mod Sorted
+pub mod Whole

@@ -1,0 +1,9 @@
+pub mod Doubles
+pub mod Expand
+pub mod Faults
+pub mod Globals
+pub mod Lists
+pub mod Names
+pub mod Neighbours
+pub mod Options
+pub mod Placed

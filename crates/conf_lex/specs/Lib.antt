@@ -1,0 +1,11 @@
+pub mod Views
+pub mod Readers
+pub mod Spots
+pub mod Parts
+pub mod Gives
+pub mod Lines
+pub mod Puts
+pub mod Tables
+pub mod Short
+pub mod Reading
+pub mod Asking

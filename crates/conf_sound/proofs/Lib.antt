@@ -1,0 +1,16 @@
+pub mod Finds
+pub mod ReadingForms
+pub mod ValueForms
+pub mod ItemForms
+pub mod RuleForms
+pub mod NeighbourForms
+pub mod StatementForms
+pub mod Lists
+pub mod FlatForms
+pub mod WholeForms
+pub mod Characters
+pub mod TextRules
+pub mod CutForms
+pub mod SoundCuts
+pub mod TokenForms
+pub mod Whole

@@ -1,0 +1,6 @@
+//! What every configuration keeps that a text of the language says.
+#![tactic(auto)]
+
+mod laws;
+
+pub use laws::configurations_can_be_written;
