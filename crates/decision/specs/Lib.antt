@@ -1,0 +1,3 @@
+pub mod Best
+pub mod Points
+pub mod Members

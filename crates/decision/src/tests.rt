@@ -1,0 +1,317 @@
+use super::*;
+use attr_model::{Attrs, Path, Segment};
+use net_base::{Addr, Family, Items};
+use std::alloc::Global;
+use std::test::*;
+
+/// What a test says of a candidate.
+#[derive(Clone, Copy)]
+struct Row {
+    from: Origin,
+    /// The first of the two numbers of its path, or none for an empty path.
+    neighbour: Option<u32>,
+    /// How often that number stands in the path.
+    times: u8,
+    local_pref: Option<u32>,
+    origin: u8,
+    med: Option<u32>,
+    weight: u32,
+    bgp_id: u32,
+    eligible: bool,
+}
+
+fn peer(last: u8) -> Addr {
+    Addr {
+        family: Family::V4,
+        bits: 0x0a00_0000 + u128::from(last),
+    }
+}
+
+fn peer_v6() -> Addr {
+    Addr {
+        family: Family::V6,
+        bits: 1,
+    }
+}
+
+/// A route from the external neighbour 10.0.0.`last` of AS 65000 + `last`, with the address as identifier.
+fn route(last: u8) -> Row {
+    Row {
+        from: Origin::External(peer(last)),
+        neighbour: Some(65000 + u32::from(last)),
+        times: 1,
+        local_pref: None,
+        origin: 0,
+        med: None,
+        weight: 0,
+        bgp_id: 0x0a00_0000 + u32::from(last),
+        eligible: true,
+    }
+}
+
+fn candidate(alloc: Global, row: Row) -> Result<Candidate, Fail> {
+    let mut path = Path::new(alloc);
+    if let Some(asn) = row.neighbour {
+        path.prepend(alloc, asn, row.times)?;
+    }
+    Ok(Candidate {
+        from: row.from,
+        attrs: Attrs {
+            origin: row.origin,
+            path,
+            hop: peer(1),
+            med: row.med,
+            local_pref: row.local_pref,
+            atomic: false,
+            aggregator: None,
+            communities: Items::new(alloc),
+            large: Items::new(alloc),
+            unknown: Items::new(alloc),
+            partial: 0,
+            weight: row.weight,
+        },
+        eligible: row.eligible,
+        bgp_id: row.bgp_id,
+        own_as: 65001,
+    })
+}
+
+fn best_of_rows(alloc: Global, rows: &[Row], med_always: bool) -> Result<Option<Origin>, Fail> {
+    let mut candidates = Vec::new(alloc);
+    for row in rows {
+        candidates.push(candidate(alloc, *row)?)?;
+    }
+    if candidates.len() > MOST_CANDIDATES {
+        return Ok(None);
+    }
+    let best = best(candidates.as_slice(), med_always);
+    Ok(
+        best.and_then(|at| candidates.get(at))
+            .map(|candidate| candidate.from),
+    )
+}
+
+// AS 65002 sends MED 20 by 10.0.0.2 and MED 10 by 10.0.0.4, AS 65003 none by 10.0.0.3. The MED step removes 10.0.0.2 alone,
+// and the lower identifier decides.
+#[test]
+fn med_in_any_order(rt: HostRuntime) -> Result<(), Fail> {
+    let second = Row {
+        med: Some(20),
+        ..route(2)
+    };
+    let third = route(3);
+    let fourth = Row {
+        neighbour: Some(65002),
+        med: Some(10),
+        ..route(4)
+    };
+    let best = Some(Origin::External(peer(3)));
+    assert_eq!(rt;
+        best_of_rows(rt.alloc(), &[second, third, fourth], false)?,
+        best
+    );
+    assert_eq!(rt;
+        best_of_rows(rt.alloc(), &[second, fourth, third], false)?,
+        best
+    );
+    assert_eq!(rt;
+        best_of_rows(rt.alloc(), &[third, second, fourth], false)?,
+        best
+    );
+    assert_eq!(rt;
+        best_of_rows(rt.alloc(), &[third, fourth, second], false)?,
+        best
+    );
+    assert_eq!(rt;
+        best_of_rows(rt.alloc(), &[fourth, second, third], false)?,
+        best
+    );
+    assert_eq!(rt;
+        best_of_rows(rt.alloc(), &[fourth, third, second], false)?,
+        best
+    );
+    Ok(())
+}
+
+// Each step with a better candidate and a worse one, that would win by each later step.
+#[test]
+fn each_step_decides(rt: HostRuntime) -> Result<(), Fail> {
+    let local = Row {
+        from: Origin::Local,
+        neighbour: None,
+        ..route(9)
+    };
+    let internal = |last: u8| Row {
+        from: Origin::Internal(peer(last)),
+        ..route(last)
+    };
+    let steps = [
+        (
+            route(3),
+            Row {
+                eligible: false,
+                local_pref: Some(200),
+                ..route(2)
+            },
+        ),
+        (
+            Row {
+                local_pref: Some(101),
+                times: 3,
+                ..route(3)
+            },
+            route(2),
+        ),
+        (
+            route(3),
+            Row {
+                local_pref: Some(99),
+                ..route(2)
+            },
+        ),
+        (
+            local,
+            Row {
+                weight: 7,
+                ..route(2)
+            },
+        ),
+        (
+            Row {
+                origin: 2,
+                ..route(3)
+            },
+            Row {
+                times: 2,
+                ..route(2)
+            },
+        ),
+        (
+            Row {
+                med: Some(9),
+                ..route(3)
+            },
+            Row {
+                origin: 1,
+                ..route(2)
+            },
+        ),
+        (
+            internal(3),
+            Row {
+                med: Some(1),
+                ..route(3)
+            },
+        ),
+        (
+            route(3),
+            Row {
+                weight: 9,
+                ..internal(2)
+            },
+        ),
+        (
+            Row {
+                weight: 1,
+                ..route(3)
+            },
+            route(2),
+        ),
+        (
+            Row {
+                bgp_id: 1,
+                ..route(3)
+            },
+            route(2),
+        ),
+        (
+            Row {
+                bgp_id: 7,
+                ..route(2)
+            },
+            Row {
+                bgp_id: 7,
+                ..route(3)
+            },
+        ),
+        (
+            Row {
+                bgp_id: 7,
+                ..route(3)
+            },
+            Row {
+                bgp_id: 7,
+                from: Origin::External(peer_v6()),
+                ..route(2)
+            },
+        ),
+    ];
+    for (better, worse) in steps {
+        let first = best_of_rows(rt.alloc(), &[better, worse], false)?;
+        assert_eq!(rt; first, Some(better.from));
+        let second = best_of_rows(rt.alloc(), &[worse, better], false)?;
+        assert_eq!(rt; second, Some(better.from));
+    }
+    Ok(())
+}
+
+// A lower MED of another neighbour AS counts only where all MEDs are compared.
+#[test]
+fn med_of_other_neighbours(rt: HostRuntime) -> Result<(), Fail> {
+    let high = Row {
+        med: Some(20),
+        ..route(2)
+    };
+    let low = Row {
+        med: Some(10),
+        ..route(3)
+    };
+    let strict = best_of_rows(rt.alloc(), &[high, low], false)?;
+    assert_eq!(rt; strict, Some(high.from));
+    let always = best_of_rows(rt.alloc(), &[high, low], true)?;
+    assert_eq!(rt; always, Some(low.from));
+    Ok(())
+}
+
+#[test]
+fn nobody_is_eligible(rt: HostRuntime) -> Result<(), Fail> {
+    assert_eq!(rt; best_of_rows(rt.alloc(), &[], false)?, None);
+    let row = Row {
+        eligible: false,
+        ..route(2)
+    };
+    assert_eq!(rt; best_of_rows(rt.alloc(), &[row], true)?, None);
+    Ok(())
+}
+
+// The first number of a set in front is the neighbour AS too.
+#[test]
+fn a_set_in_front(rt: HostRuntime) -> Result<(), Fail> {
+    let mut one = candidate(
+        rt.alloc(),
+        Row {
+            med: Some(20),
+            neighbour: None,
+            ..route(2)
+        },
+    )?;
+    one.attrs
+        .path
+        .push(Segment::Set(Items::from_slice(rt.alloc(), &[65004, 1])?))?;
+    let two = candidate(
+        rt.alloc(),
+        Row {
+            med: Some(10),
+            ..route(4)
+        },
+    )?;
+    assert_eq!(rt; best(&[one, two], false), Some(1));
+    Ok(())
+}
+
+#[test]
+fn a_clone_is_equal(rt: HostRuntime) -> Result<(), Fail> {
+    let one = candidate(rt.alloc(), route(2))?;
+    assert!(rt; one.clone()? == one);
+    Ok(())
+}

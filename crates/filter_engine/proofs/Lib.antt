@@ -1,0 +1,4 @@
+pub mod LastNumber
+pub mod FrontNumbers
+pub mod SameAttrs
+pub mod BySets

@@ -1,0 +1,147 @@
+ghost use Rattle.std.specs.Prelude.{◌≡◌, ◌+◌, ◌↔◌, IsTrue, IfOk, OnOk, unwrap_or, true, false};
+ghost use Rattle.std.specs.List.{All};
+ghost use Rattle.attr_model.specs.Path.{origin_as};
+ghost use Rattle.filter_engine.specs.Named.{AreNamed, IsNamed};
+ghost use Rattle.filter_engine.specs.Verdict.{Says, begun, decided, evaluated, outcome, taken, verdict};
+ghost use Rattle.filter_engine.specs.Progress.{course_of};
+
+use crate::items::{apply_set, choose_hop};
+use crate::rule_test::rule_matches;
+use crate::{Context, Hop, Steps, Verdict};
+use attr_model::Attrs;
+use conf_tree::{Action, Members, Rule, RuleList};
+use net_base::NoMemory;
+use std::alloc::Global;
+use std::sync::ledger::Ledger;
+
+/// How far an evaluation has come.
+#[derive(Debug, Drop)]
+pub(crate) struct Progress {
+    /// The attributes, where a set was applied to them.
+    changed: Option<Attrs>,
+    hop: Hop,
+    passes: bool,
+}
+
+/// What the rules decide of a route (bgpd.conf(5), FILTER). They are read in order. The set of each rule that matches
+/// is applied at once, so that later rules see the changed route; `ovs` and `origin-set` go by the path as it came.
+/// The last `allow` or `deny` that matches decides, and a `quick` rule that matches is the last. Where none decides,
+/// the route doesn't pass. The answer is Same exactly where no attribute differs at the end.
+#[tactic(auto, unfolding(crate::specs::Verdict::verdict))]
+pub fn evaluate<M: Members, L: Ledger>(
+    alloc: Global,
+    rules: &RuleList,
+    sets: &M,
+    context: &Context,
+    route: &Attrs,
+    steps: &mut Steps<L>,
+) -> Result<Verdict, NoMemory>
+    requires { AreNamed (M.conf_of sets.now) rules.now }
+    ensures verdict { IfOk result (Says route.now (verdict (M.conf_of sets.now) rules.now context.now route.now)) }
+    ensures counted { steps.new ≡ steps.old + 1 }
+{
+    steps.tick();
+    let origin = route.path.origin_as(context.own_as);
+    let progress = walk(alloc, rules.as_slice(), sets, context, origin, route)?;
+    Ok(verdict_of(route, progress))
+}
+
+/// The rules in order, up to the first quick one that matches.
+#[tactic(auto, unfolding(crate::specs::Verdict::evaluated))]
+fn walk<M: Members>(
+    alloc: Global,
+    rules: &[Rule],
+    sets: &M,
+    context: &Context,
+    origin: Option<u32>,
+    route: &Attrs,
+) -> Result<Progress, NoMemory>
+    requires { AreNamed (M.conf_of sets.now) rules.now }
+    ensures { IfOk result (λ progress. course_of route.now progress ≡ evaluated (M.conf_of sets.now) context.now origin rules.now (begun route.now)) }
+{
+    let mut progress = Progress {
+        changed: None,
+        hop: Hop::Unset,
+        passes: false,
+    };
+    for rule in rules {
+        let attrs = current(&progress, route);
+        if rule_matches(sets, context, origin, attrs, progress.hop, rule) {
+            take(alloc, rule, context, route, &mut progress)?;
+            if rule.quick {
+                return Ok(progress);
+            }
+        }
+    }
+    Ok(progress)
+}
+
+/// The attributes as they stand.
+fn current<'a>(progress: &'a Progress, route: &'a Attrs) -> &'a Attrs
+    ensures { result.now ≡ (course_of route.now progress.now).attrs }
+{
+    match &progress.changed {
+        Some(attrs) => attrs,
+        None => route,
+    }
+}
+
+/// Applies the set of a rule that matches, and decides by its action.
+fn take(
+    alloc: Global,
+    rule: &Rule,
+    context: &Context,
+    route: &Attrs,
+    progress: &mut Progress,
+) -> Result<(), NoMemory>
+    ensures { OnOk result (course_of route.now progress.new ≡ taken context.now (course_of route.now progress.old) rule.now) }
+{
+    if !rule.set.is_empty() {
+        let mut attrs = match progress.changed.take() {
+            Some(attrs) => attrs,
+            None => route.clone()?,
+        };
+        apply_set(alloc, &rule.set, context, &mut attrs)?;
+        progress.changed = Some(attrs);
+        progress.hop = choose_hop(&rule.set, context, progress.hop);
+    }
+    progress.passes = decide(rule.action, progress.passes);
+    Ok(())
+}
+
+/// `match` decides nothing.
+fn decide(action: Action, passes: bool) -> bool
+    ensures { result ≡ decided action passes }
+{
+    match action {
+        Action::Allow => true,
+        Action::Deny => false,
+        Action::Match => passes,
+    }
+}
+
+/// Whether no attribute differs.
+fn are_same(one: &Attrs, other: &Attrs) -> bool
+    ensures { IsTrue result ↔ (one.now ≡ other.now) }
+{
+    *one == *other
+}
+
+/// The verdict of an evaluation that has ended.
+fn verdict_of(route: &Attrs, progress: Progress) -> Verdict
+    ensures { Says route.now (outcome (course_of route.now progress)) result }
+{
+    let Progress {
+        changed,
+        hop,
+        passes,
+    } = progress;
+    if !passes {
+        return Verdict::Deny;
+    }
+    match changed {
+        None => Verdict::Same(hop),
+        Some(attrs) if are_same(&attrs, route) => Verdict::Same(hop),
+        Some(attrs) => Verdict::Changed(attrs, hop),
+    }
+}

@@ -1,0 +1,14 @@
+ghost use Rattle.std.specs.Prelude.{◌≡◌, List, [], None};
+ghost use Rattle.attr_model.specs.declared.attrs.Attrs.{Attrs};
+ghost use Rattle.conf_tree.specs.declared.conf.Conf.{Conf};
+ghost use Rattle.conf_tree.specs.declared.rule.Rule.{Rule};
+ghost use Rattle.filter_engine.specs.declared.context.Context.{Context};
+ghost use Rattle.filter_engine.specs.Verdict.{verdict};
+
+/// A verdict goes by the sets of a configuration and by nothing else in it, and without rules no route passes.
+pub fn verdict_goes_by_sets()
+    ensures sets { (one other : Conf) (rules : List Rule) (context : Context) (attrs : Attrs) →
+        one.prefix_sets ≡ other.prefix_sets → one.as_sets ≡ other.as_sets → one.origin_sets ≡ other.origin_sets → one.roas ≡ other.roas →
+        verdict one rules context attrs ≡ verdict other rules context attrs }
+    ensures none { (conf : Conf) (context : Context) (attrs : Attrs) → verdict conf [] context attrs ≡ None }
+{}

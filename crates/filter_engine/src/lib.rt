@@ -1,0 +1,23 @@
+//! What filter rules decide of a route (bgpd.conf(5), FILTER).
+#![tactic(auto)]
+
+mod communities;
+mod conditions;
+mod context;
+mod evaluation;
+mod items;
+mod laws;
+mod path_test;
+mod rule_test;
+mod steps;
+mod verdict;
+
+pub use context::Context;
+pub use evaluation::evaluate;
+pub use items::{apply_set, choose_hop};
+pub use laws::verdict_goes_by_sets;
+pub use steps::Steps;
+pub use verdict::{Hop, Verdict};
+
+#[cfg(test)]
+mod tests;

@@ -1,0 +1,472 @@
+ghost use Rattle.std.specs.Prelude.{◌≡◌, ◌<◌, IsTrue};
+ghost use Rattle.std.specs.List.{All};
+ghost use Rattle.conf_tree.specs.Empty.{empty_conf};
+ghost use Rattle.filter_engine.specs.Named.{AreNamed, IsNamed};
+
+use super::*;
+use crate::conditions::condition_holds;
+use crate::rule_test::peer_fits;
+use attr_model::{Attrs, Path, Segment};
+use conf_tree::{
+    Action, Change, CommunityPattern, Condition, Direction, Item, LargePattern, Members, NextHop,
+    PathPart, Peer, PrefixRange, RouteOrigin, Rule, RuleList, SetId,
+};
+use net_base::{Addr, Family, Items, Ovs, Prefix};
+use std::alloc::Global;
+use std::marker::Brand;
+use std::sync::ledger::{Blank, Ledger};
+use std::test::*;
+
+/// The sets of the empty configuration.
+struct NoSets;
+
+impl Members for NoSets {
+    ghost use Rattle.conf_tree.specs.Empty.{empty_conf};
+
+    ghost conf_of = { λ _. empty_conf };
+
+    fn in_prefix_set(&self, _set: SetId, _prefix: Prefix) -> bool {
+        false
+    }
+
+    fn in_prefix_set_or_longer(&self, _set: SetId, _prefix: Prefix) -> bool {
+        false
+    }
+
+    fn in_as_set(&self, _set: SetId, _asn: u32) -> bool {
+        false
+    }
+
+    fn in_origin_set(&self, _set: SetId, _prefix: Prefix, _origin: Option<u32>) -> bool {
+        false
+    }
+
+    #[tactic(auto, unfolding(net_base::specs::Roa::origin_validation))]
+    fn ovs(&self, _prefix: Prefix, _origin: Option<u32>) -> Ovs {
+        Ovs::NotFound
+    }
+}
+
+fn names_no_set(condition: Condition) -> bool
+    ensures { IsTrue result → IsNamed empty_conf condition }
+{
+    match condition {
+        Condition::PrefixSet(_) | Condition::PrefixSetOrLonger(_) => false,
+        Condition::PathSet(_, _) | Condition::OriginSet(_) => false,
+        _ => true,
+    }
+}
+
+fn name_no_sets(conditions: &[Condition]) -> bool
+    ensures { IsTrue result → All (IsNamed empty_conf) conditions.now }
+{
+    for condition in conditions {
+        if !names_no_set(*condition) {
+            return false;
+        }
+    }
+    true
+}
+
+fn rules_name_no_sets(rules: &[Rule]) -> bool
+    ensures { IsTrue result → AreNamed empty_conf rules.now }
+{
+    for rule in rules {
+        if !name_no_sets(rule.conditions.as_slice()) {
+            return false;
+        }
+    }
+    true
+}
+
+fn v4(last: u8) -> Addr {
+    Addr {
+        family: Family::V4,
+        bits: 0x0a00_0000 + u128::from(last),
+    }
+}
+
+fn v6() -> Addr {
+    Addr {
+        family: Family::V6,
+        bits: 1,
+    }
+}
+
+/// 10.0.0.0 with this length.
+fn prefix(len: u8) -> Prefix {
+    Prefix::new(v4(0), len.min(32))
+}
+
+/// A route with the path 65002 65003 { 65004 } 65002, from 10.0.0.2, with two communities of each kind.
+fn route(alloc: Global) -> Result<Attrs, Fail> {
+    let mut path = Path::new(alloc);
+    path.push(Segment::Sequence(Items::from_slice(alloc, &[65002, 65003])?))?;
+    path.push(Segment::Set(Items::from_slice(alloc, &[65004])?))?;
+    path.push(Segment::Sequence(Items::from_slice(alloc, &[65002])?))?;
+    Ok(Attrs {
+        origin: 0,
+        path,
+        hop: v4(2),
+        med: None,
+        local_pref: None,
+        atomic: false,
+        aggregator: None,
+        communities: Items::from_slice(alloc, &[0x0001_0005, 0x0001_0007])?,
+        large: Items::from_slice(alloc, &[(1, 2, 3), (1, 2, 5)])?,
+        unknown: Items::new(alloc),
+        partial: 6,
+        weight: 0,
+    })
+}
+
+/// A route to 10.0.0.0/24 from 10.0.0.2 of AS 65002.
+fn context() -> Context {
+    Context {
+        to: false,
+        rib: 0,
+        peer: v4(2),
+        peer_as: 65002,
+        group: None,
+        external: true,
+        own_as: 65001,
+        prefix: prefix(24),
+    }
+}
+
+fn range(len: u8, low: u8, high: u8) -> Condition {
+    Condition::Prefix(PrefixRange {
+        prefix: prefix(len),
+        low,
+        high,
+    })
+}
+
+fn community(high: Option<u16>, low: Option<u16>) -> Condition {
+    Condition::Community(CommunityPattern { high, low })
+}
+
+fn large(global: Option<u32>, first: Option<u32>, second: Option<u32>) -> Condition {
+    Condition::LargeCommunity(LargePattern {
+        global,
+        first,
+        second,
+    })
+}
+
+fn holds(attrs: &Attrs, condition: Condition) -> Option<bool> {
+    if !names_no_set(condition) {
+        return None;
+    }
+    let origin = Some(65002);
+    Some(condition_holds(&NoSets, &context(), origin, attrs, Hop::Unset, condition))
+}
+
+#[test]
+fn conditions(rt: HostRuntime) -> Result<(), Fail> {
+    let attrs = route(rt.alloc())?;
+    let rows = [
+        (range(24, 24, 24), true),
+        (range(24, 25, 32), false),
+        (range(16, 16, 23), false),
+        (range(16, 16, 24), true),
+        (range(25, 25, 32), false),
+        (Condition::Family(Family::V4), true),
+        (Condition::Family(Family::V6), false),
+        (Condition::PathNumber(PathPart::Any, 65004), true),
+        (Condition::PathNumber(PathPart::Any, 65001), false),
+        (Condition::PathNumber(PathPart::Peer, 65002), true),
+        (Condition::PathNumber(PathPart::Peer, 65003), false),
+        (Condition::PathNumber(PathPart::Source, 65002), true),
+        (Condition::PathNumber(PathPart::Source, 65004), false),
+        (Condition::PathNumber(PathPart::Transit, 65004), true),
+        (Condition::PathNumber(PathPart::Transit, 65002), true),
+        (Condition::MaxAsLen(3), true),
+        (Condition::MaxAsLen(4), false),
+        (community(Some(1), Some(7)), true),
+        (community(Some(1), None), true),
+        (community(None, Some(6)), false),
+        (large(Some(1), None, Some(5)), true),
+        (large(Some(1), Some(3), None), false),
+        (Condition::NextHop(v4(2)), true),
+        (Condition::NextHop(v4(3)), false),
+        (Condition::Ovs(Ovs::NotFound), true),
+        (Condition::Ovs(Ovs::Valid), false),
+    ];
+    for (condition, said) in rows {
+        assert_eq!(rt; holds(&attrs, condition), Some(said));
+    }
+    Ok(())
+}
+
+#[test]
+fn peers(rt: HostRuntime) -> Result<(), Fail> {
+    let name = Items::from_slice(rt.alloc(), b"transit")?;
+    let context = Context {
+        group: Some(name.clone()?),
+        ..context()
+    };
+    assert!(rt; peer_fits(&Peer::Any, &context));
+    assert!(rt; peer_fits(&Peer::Ebgp, &context));
+    assert!(rt; !peer_fits(&Peer::Ibgp, &context));
+    assert!(rt; peer_fits(&Peer::Address(v4(2)), &context));
+    assert!(rt; !peer_fits(&Peer::Address(v6()), &context));
+    assert!(rt; peer_fits(&Peer::As(65002), &context));
+    assert!(rt; !peer_fits(&Peer::As(65003), &context));
+    assert!(rt; peer_fits(&Peer::Group(name), &context));
+    Ok(())
+}
+
+/// What an item may change.
+#[derive(Clone, Copy, Debug, PartialEq, Eq)]
+struct Look {
+    local_pref: Option<u32>,
+    med: Option<u32>,
+    weight: u32,
+    origin: u8,
+    length: u128,
+    communities: (Option<u32>, Option<u32>, Option<u32>),
+    large: usize,
+    partial: u8,
+}
+
+const BEFORE: Look = Look {
+    local_pref: None,
+    med: None,
+    weight: 0,
+    origin: 0,
+    length: 4,
+    communities: (Some(0x0001_0005), Some(0x0001_0007), None),
+    large: 2,
+    partial: 6,
+};
+
+fn seen_of(attrs: &Attrs) -> Look {
+    let at = |index: usize| attrs.communities.get(index).copied();
+    Look {
+        local_pref: attrs.local_pref,
+        med: attrs.med,
+        weight: attrs.weight,
+        origin: attrs.origin,
+        length: attrs.path.length(),
+        communities: (at(0), at(1), at(2)),
+        large: attrs.large.len(),
+        partial: attrs.partial,
+    }
+}
+
+fn changed_by(alloc: Global, items: &[Item]) -> Result<Look, Fail> {
+    let mut attrs = route(alloc)?;
+    let set = Items::from_slice(alloc, items)?;
+    apply_set(alloc, &set, &context(), &mut attrs)?;
+    Ok(seen_of(&attrs))
+}
+
+#[test]
+fn items(rt: HostRuntime) -> Result<(), Fail> {
+    let two = BEFORE.communities;
+    let three = (two.0, Some(0x0001_0006), two.1);
+    let first = CommunityPattern {
+        high: Some(1),
+        low: Some(5),
+    };
+    let rows = [
+        (
+            Item::LocalPref(Change::Set(50)),
+            Look {
+                local_pref: Some(50),
+                ..BEFORE
+            },
+        ),
+        (
+            Item::LocalPref(Change::Add(5)),
+            Look {
+                local_pref: Some(105),
+                ..BEFORE
+            },
+        ),
+        (
+            Item::LocalPref(Change::Subtract(101)),
+            Look {
+                local_pref: Some(0),
+                ..BEFORE
+            },
+        ),
+        (
+            Item::Med(Change::Add(u32::MAX)),
+            Look {
+                med: Some(u32::MAX),
+                ..BEFORE
+            },
+        ),
+        (
+            Item::Med(Change::Subtract(5)),
+            Look {
+                med: Some(0),
+                ..BEFORE
+            },
+        ),
+        (
+            Item::Weight(Change::Add(3)),
+            Look {
+                weight: 3,
+                ..BEFORE
+            },
+        ),
+        (
+            Item::PrependSelf(3),
+            Look {
+                length: 7,
+                ..BEFORE
+            },
+        ),
+        (
+            Item::PrependNeighbor(1),
+            Look {
+                length: 5,
+                ..BEFORE
+            },
+        ),
+        (
+            Item::Origin(RouteOrigin::Incomplete),
+            Look {
+                origin: 2,
+                ..BEFORE
+            },
+        ),
+        (
+            Item::Community(0x0001_0006),
+            Look {
+                communities: three,
+                ..BEFORE
+            },
+        ),
+        (Item::Community(0x0001_0007), BEFORE),
+        (
+            Item::DeleteCommunity(first),
+            Look {
+                communities: (two.1, None, None),
+                ..BEFORE
+            },
+        ),
+        (Item::LargeCommunity(1, 2, 4), Look { large: 3, ..BEFORE }),
+        (Item::NextHop(NextHop::Own), BEFORE),
+    ];
+    for (item, after) in rows {
+        assert_eq!(rt; changed_by(rt.alloc(), &[item])?, after);
+    }
+    Ok(())
+}
+
+// A partial bit goes with the last community, and doesn't come back.
+#[test]
+fn partial_bits(rt: HostRuntime) -> Result<(), Fail> {
+    let all = CommunityPattern {
+        high: None,
+        low: None,
+    };
+    let emptied = changed_by(
+        rt.alloc(),
+        &[Item::DeleteCommunity(all), Item::Community(9)],
+    )?;
+    assert_eq!(rt; emptied.partial, 4);
+    let all = LargePattern {
+        global: None,
+        first: None,
+        second: None,
+    };
+    let emptied = changed_by(rt.alloc(), &[Item::DeleteLargeCommunity(all)])?;
+    assert_eq!(rt; emptied.partial, 2);
+    Ok(())
+}
+
+#[test]
+fn next_hops(rt: HostRuntime) -> Result<(), Fail> {
+    let rows = [
+        (NextHop::Address(v4(9)), Hop::Given(v4(9))),
+        (NextHop::Address(v6()), Hop::NoModify),
+        (NextHop::Own, Hop::SelfHop),
+    ];
+    for (choice, hop) in rows {
+        let set = Items::from_slice(rt.alloc(), &[Item::NextHop(choice)])?;
+        assert_eq!(rt; choose_hop(&set, &context(), Hop::NoModify), hop);
+    }
+    Ok(())
+}
+
+/// An action, whether it is quick, and the change of LOCAL_PREF in its set.
+type Line = (Action, bool, Option<Change>);
+
+fn rule(alloc: Global, line: Line) -> Result<Rule, Fail> {
+    let mut set = Items::new(alloc);
+    if let Some(change) = line.2 {
+        set.push(Item::LocalPref(change))?;
+    }
+    Ok(Rule {
+        action: line.0,
+        quick: line.1,
+        rib: None,
+        direction: Direction::From,
+        peer: Peer::Any,
+        conditions: Items::from_slice(alloc, &[range(24, 24, 24)])?,
+        set,
+    })
+}
+
+fn list(alloc: Global, lines: &[Line]) -> Result<RuleList, Fail> {
+    let mut rules = RuleList::new(alloc);
+    for line in lines {
+        rules.push(rule(alloc, *line)?)?;
+    }
+    Ok(rules)
+}
+
+/// The verdict, counted in a ledger of its own.
+fn decide_counted<L: Ledger>(
+    alloc: Global,
+    rules: &RuleList,
+    route: &Attrs,
+    blank: Blank,
+) -> Result<Verdict, Fail>
+    requires named { AreNamed empty_conf rules.now }
+    requires name { blank.name ≡ L.name }
+    requires parts { blank.parts ≡ L.parts }
+    requires some { 0 < blank.parts }
+{
+    let mut steps = Steps::<L>::new(blank);
+    Ok(evaluate(alloc, rules, &NoSets, &context(), route, &mut steps)?)
+}
+
+/// Nothing where the route doesn't pass, otherwise its LOCAL_PREF where something changed.
+fn decide(alloc: Global, lines: &[Line]) -> Result<Option<Option<u32>>, Fail> {
+    let rules = list(alloc, lines)?;
+    if !rules_name_no_sets(rules.as_slice()) {
+        return Ok(None);
+    }
+    let route = route(alloc)?;
+    match decide_counted::<Brand>(alloc, &rules, &route, Blank::new(1))? {
+        Verdict::Deny => Ok(None),
+        Verdict::Same(_) => Ok(Some(None)),
+        Verdict::Changed(attrs, _) => Ok(Some(attrs.local_pref)),
+    }
+}
+
+// `match` sets and decides nothing; the last rule that matches decides; a quick one is the last; changes that undo one
+// another are none.
+#[test]
+fn the_last_rule_decides(rt: HostRuntime) -> Result<(), Fail> {
+    let alloc = rt.alloc();
+    let preferred: Line = (Action::Match, false, Some(Change::Set(50)));
+    let allow: Line = (Action::Allow, false, None);
+    let quick: Line = (Action::Allow, true, None);
+    let deny: Line = (Action::Deny, false, None);
+    let raise: Line = (Action::Deny, false, Some(Change::Add(1)));
+    assert_eq!(rt; decide(alloc, &[])?, None);
+    assert_eq!(rt; decide(alloc, &[preferred])?, None);
+    assert_eq!(rt; decide(alloc, &[preferred, allow])?, Some(Some(50)));
+    assert_eq!(rt; decide(alloc, &[preferred, allow, deny])?, None);
+    assert_eq!(rt; decide(alloc, &[preferred, quick, deny])?, Some(Some(50)));
+    assert_eq!(rt; decide(alloc, &[raise, raise, allow])?, Some(Some(102)));
+    assert_eq!(rt; decide(alloc, &[allow])?, Some(None));
+    Ok(())
+}
