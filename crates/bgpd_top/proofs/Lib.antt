@@ -1,3 +1,5 @@
-pub mod Coming
-pub mod ServingLemmas
 pub mod Causes
+pub mod CheckStatuses
+pub mod Coming
+pub mod FrontOfText
+pub mod ServingLemmas

@@ -1,8 +1,9 @@
 pub mod Ahead
+pub mod Checking
+pub mod Command
 pub mod Faults
 pub mod Reader
-pub mod Transcript
 pub mod ServeCauses
 pub mod Serving
-pub mod Command
+pub mod Transcript
 pub mod Words

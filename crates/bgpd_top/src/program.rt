@@ -1,11 +1,13 @@
-ghost use Rattle.std.specs.Prelude.{◌≡◌, ◌≢◌, ◌↔◌, ℕ, List, Some, None, Ok, Err, map, codes, option_map, OnOk, IfErr, string_bytes};
+ghost use Rattle.std.specs.Prelude.{◌≡◌, ◌≢◌, ◌↔◌, ℕ, Bool, List, Some, None, Ok, Err, map, codes, option_map, OnOk, IfErr, string_bytes};
 ghost use Rattle.std.specs.Io.KnownBytes.{append_known};
 ghost use Rattle.io_edge.specs.Faults.{CountsFailure};
 ghost use Rattle.bgpd_top.specs.Ahead.{events_of_file};
 ghost use Rattle.bgpd_top.specs.Serving.{Ends, CountsServing};
-ghost use Rattle.bgpd_top.specs.Command.{word_command, command_of, status_of, fault_text, Tells, ReplayCauses, PrintCauses};
+ghost use Rattle.bgpd_top.specs.Command.{word_command, check_command, verbose_command, command_of, file_named, status_of, fault_text, Tells, ReplayCauses, PrintCauses};
+ghost use Rattle.bgpd_top.specs.Checking.{CheckCauses};
 ghost use Rattle.bgpd_top.specs.Words.{usage_text, help_text, version_text};
 
+use crate::checking::check_file;
 use crate::replay::EventReader;
 use crate::serving::{ServeFault, serve};
 use cores_link::Router;
@@ -22,29 +24,32 @@ pub enum Command {
     Version,
     /// `replay`: the events of standard input, to a transcript on standard output.
     Replay,
+    /// `-n -f FILE`: whether the file has a configuration; with `-v`, which is true, its canonical text besides.
+    Check(bool),
 }
 
 /// What stands on standard error where the words fit no command.
-const USAGE: &str = "usage: bgpd replay\n       bgpd --help\n       bgpd --version\n";
+const USAGE: &str =
+    "usage: bgpd replay\n       bgpd -n [-v] -f FILE\n       bgpd --help\n       bgpd --version\n";
 
 /// What `--help` prints.
 const HELP: &str =
-    "bgpd replay\n    reads events from standard input and writes their transcript to standard output\nbgpd --version\n    prints the version\n";
+    "bgpd replay\n    reads events from standard input and writes their transcript to standard output\nbgpd -n [-v] -f FILE\n    checks a configuration file; with -v prints its canonical text first\nbgpd --version\n    prints the version\n";
 
 /// What `--version` prints.
 const VERSION: &str = "bgpd 0.1\n";
 
 /// The program `bgpd` over the objects that it is handed; the answer is its status.
 ///
-/// 0: the command is done. 2: the words fit no command, which the usage on `err` tells. 3: a line isn't of the grammar
-/// of events, which `line N: bad event` tells. 4: the source failed, `read fault`. 5: the sink `out` failed,
+/// 0: the command is done. 1: the configuration file has a fault, which `FILE:LINE: KIND` tells. 2: the words fit no command, which the usage on `err` tells. 3: a line isn't of the grammar
+/// of events, which `line N: bad event` tells. 4: the source failed or the file couldn't be read, `read fault`. 5: the sink `out` failed,
 /// `write fault`. 7: memory ran out, `no memory`. 8: a line or the file is past its limit, `too long`. A fault of `err`
-/// changes no status. Nothing is used of the files, the nets, the kernel and the clock yet.
+/// changes no status. Nothing is used of the nets, the kernel and the clock yet.
 #[tactic(auto, using(crate::proofs::Causes::causes, crate::proofs::Causes::prints, crate::proofs::ServingLemmas::append_none))]
 pub fn bgpd_main<F: Files, I: Source, O: Sink, E: Sink, N: PeerNet, K: Kernel, C: Clock>(
     alloc: Global,
     words: &[String],
-    _files: &mut F,
+    files: &mut F,
     input: &mut I,
     out: &mut O,
     err: &mut E,
@@ -62,6 +67,12 @@ pub fn bgpd_main<F: Files, I: Source, O: Sink, E: Sink, N: PeerNet, K: Kernel, C
         (I.faults input.old) (I.faults input.new) (O.faults out.old) (O.faults out.new)
         (Tells (E.faults err.old) (E.faults err.new) (E.written err.old) (E.written err.new)) }
 
+    // Each status of a check with its cause.
+    ensures check { (verbose : Bool) → command_of (map string_bytes words.now) ≡ Some (Command.Check verbose) →
+        CheckCauses result verbose (file_named (map string_bytes words.now)) (F.content files.old (file_named (map string_bytes words.now)))
+        (O.written out.old) (O.written out.new) (F.faults files.old) (F.faults files.new) (O.faults out.old) (O.faults out.new)
+        (Tells (E.faults err.old) (E.faults err.new) (E.written err.old) (E.written err.new)) }
+
     // What the other commands print.
     ensures shown { result ≡ 2 → Tells (E.faults err.old) (E.faults err.new) (E.written err.old) (E.written err.new) usage_text }
     ensures help { command_of (map string_bytes words.now) ≡ Some Command.Help →
@@ -73,9 +84,23 @@ pub fn bgpd_main<F: Files, I: Source, O: Sink, E: Sink, N: PeerNet, K: Kernel, C
         let _ = err.write(USAGE.as_bytes());
         return 2;
     };
+    if let Command::Check(verbose) = command {
+        return check_file(alloc, verbose, file_named(words), files, out, err);
+    }
     match run(alloc, command, input, out) {
         Ok(()) => 0,
         Err(fault) => fault_status(err, fault),
+    }
+}
+
+/// The file that the last word of a check names.
+fn file_named(words: &[String]) -> &str
+    ensures { result.now ≡ file_named (map string_bytes words.now) }
+{
+    match words {
+        [_, _, file] => file.as_str(),
+        [_, _, _, file] => file.as_str(),
+        _ => "",
     }
 }
 
@@ -93,7 +118,33 @@ fn command_of(words: &[String]) -> Option<Command>
 {
     match words {
         [word] => word_command(word.as_bytes()),
+        [first, second, _] => check_command(first.as_bytes(), second.as_bytes()),
+        [first, second, third, _] => {
+            verbose_command(first.as_bytes(), second.as_bytes(), third.as_bytes())
+        }
         _ => None,
+    }
+}
+
+/// `-n -f` before the name of a file.
+fn check_command(first: &[u8], second: &[u8]) -> Option<Command>
+    ensures { result ≡ check_command first.now second.now }
+{
+    if first == b"-n".as_slice() && second == b"-f".as_slice() {
+        Some(Command::Check(false))
+    } else {
+        None
+    }
+}
+
+/// `-n -v -f` before the name of a file.
+fn verbose_command(first: &[u8], second: &[u8], third: &[u8]) -> Option<Command>
+    ensures { result ≡ verbose_command first.now second.now third.now }
+{
+    if first == b"-n".as_slice() && second == b"-v".as_slice() && third == b"-f".as_slice() {
+        Some(Command::Check(true))
+    } else {
+        None
     }
 }
 
@@ -129,6 +180,8 @@ fn run<I: Source, O: Sink>(
         Command::Help => write_text(out, HELP),
         Command::Version => write_text(out, VERSION),
         Command::Replay => replay(alloc, input, out),
+        // The caller has answered these words already.
+        Command::Check(_) => Ok(()),
     }
 }
 

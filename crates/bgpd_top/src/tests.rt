@@ -94,7 +94,7 @@ fn event_files_give_their_transcripts(rt: HostRuntime) -> Result<(), Fail> {
         ),
         (
             b"reload\nAS 1\n.\nreload\nAS 0\n.\nreload\n.\nctl show rib\n",
-            b"refused 0 NoRouterId\nrefused 1 NotBuilt\nrefused 0 NoAs\nok\n",
+            b"refused 0 NoRouterId\nrefused 1 NumberRange\nrefused 0 NoAs\nok\n",
             0,
             b"",
         ),
@@ -175,7 +175,7 @@ fn a_text_at_its_limits_and_past_them(rt: HostRuntime) -> Result<(), Fail> {
     let alloc = rt.alloc();
     let rows: [(u32, usize, &[u8]); 3] = [
         (4096, 0, b"ok 1\n"),
-        (4097, 0, b"refused 4099 NotBuilt\n"),
+        (4097, 0, b"refused 4099 TooMany networks\n"),
         (0, 100000, b"ok 1\n"),
     ];
     for (networks, blanks, out) in rows {
@@ -206,7 +206,7 @@ fn a_text_of_1048576_bytes_and_one_more(rt: HostRuntime) -> Result<(), Fail> {
     let met = replay(alloc, long_reload(alloc, 43)?.as_slice())?;
     assert_eq!(rt; met.out.as_slice(), b"ok 1\n".as_slice());
     let passed = replay(alloc, long_reload(alloc, 44)?.as_slice())?;
-    assert_eq!(rt; passed.out.as_slice(), b"refused 10 NotBuilt\n".as_slice());
+    assert_eq!(rt; passed.out.as_slice(), b"refused 10 TooLong\n".as_slice());
     Ok(())
 }
 
@@ -238,13 +238,17 @@ fn faults_of_the_source_and_the_sinks(rt: HostRuntime) -> Result<(), Fail> {
 #[test]
 fn words_of_the_command_line(rt: HostRuntime) -> Result<(), Fail> {
     let alloc = rt.alloc();
-    let rows: [(&[&str], u8, bool); 6] = [
+    let rows: [(&[&str], u8, bool); 10] = [
         (&["replay"], 0, true),
         (&["--help"], 0, true),
         (&["--version"], 0, true),
         (&[], 2, false),
         (&["replay", "more"], 2, false),
         (&["load"], 2, false),
+        (&["-n", "-f"], 2, false),
+        (&["-n", "F"], 2, false),
+        (&["-f", "F", "-n"], 2, false),
+        (&["-v", "-n", "-f", "F"], 2, false),
     ];
     for (words, status, silent) in rows {
         let ran = run(alloc, words, b"", Items::new(alloc), Items::new(alloc))?;

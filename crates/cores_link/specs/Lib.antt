@@ -1,4 +1,3 @@
-pub mod Drafts
 pub mod Generations
 pub mod Standing
 pub mod Routers

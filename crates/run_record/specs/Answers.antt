@@ -2,7 +2,7 @@
 use Rattle.std.specs.Prelude.{◌≡◌, ◌⊎◌, ℕ, ◌+◌, Bool, false, ◌&&◌, List, [], ◌∷◌, map, Option, Some, None, Result, Ok, Err, if◌then◌else◌, codes, bytes_eq}
 use Rattle.net_base.specs.declared.conf.ConfFault.{ConfFault}
 use Rattle.conf_tree.specs.declared.conf.Conf.{Conf}
-use Rattle.conf_tree.specs.Language.{configuration}
+use Rattle.run_record.specs.Taken.{taken}
 use Rattle.core_msgs.specs.declared.event.Event.{Event}
 use Rattle.core_msgs.specs.declared.event.Event.TheVariants as event
 use Rattle.core_msgs.specs.declared.answer.Answer.{Answer}
@@ -45,7 +45,7 @@ are_show_rib _ = false
 
 -- what an event is answered behind a history, want of memory apart
 abbrev pub answer_to : History → Event → Answer
-answer_to before (event.Reload text) = reload_answer (under_way before) (generation before) (configuration text)
+answer_to before (event.Reload text) = reload_answer (under_way before) (generation before) (taken text)
 answer_to before event.Settle = record { lines = reload_reports (under_way before); last = line.Quiet }
 answer_to before (event.Ctl words) = if are_show_rib words then show_rib_answer (under_way before) (world before) else refused refusal.NotBuilt
 answer_to before (event.NotBuilt text) = refused refusal.NotBuilt

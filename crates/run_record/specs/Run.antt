@@ -3,7 +3,7 @@ use Rattle.std.specs.Prelude.{ℕ, List, [], ◌∷◌, fold, Option, Some, None
 use Rattle.net_base.specs.declared.conf.ConfFault.{ConfFault}
 use Rattle.conf_tree.specs.declared.conf.Conf.{Conf}
 use Rattle.conf_tree.specs.Empty.{empty_conf}
-use Rattle.conf_tree.specs.Language.{configuration}
+use Rattle.run_record.specs.Taken.{taken}
 use Rattle.core_msgs.specs.declared.event.Event.{Event}
 use Rattle.core_msgs.specs.declared.event.Event.TheVariants.{Reload}
 use Rattle.core_msgs.specs.declared.answer.Answer.{Answer}
@@ -39,14 +39,14 @@ abbrev pub under_way : History → Option ℕ
 under_way [] = None
 under_way (step ∷ before) = under_way_told (fold under_way_told (under_way before) step.answer.lines) step.answer.last
 
--- the configuration of a text that has one
+-- the configuration of a text that is taken
 abbrev pub conf_or : Conf → Result Conf ConfFault → Conf
 conf_or before (Ok conf) = conf
 conf_or before (Err fault) = before
 
 -- a reload that is accepted brings the configuration of its text
 abbrev pub conf_told : Conf → Event → Line → Conf
-conf_told before (Reload text) (OkGeneration generation) = conf_or before (configuration text)
+conf_told before (Reload text) (OkGeneration generation) = conf_or before (taken text)
 conf_told before _ _ = before
 
 abbrev pub conf : History → Conf
