@@ -4,3 +4,4 @@ pub mod Named
 pub mod Verdict
 pub mod Wanted
 pub mod Progress
+pub mod EmptySets

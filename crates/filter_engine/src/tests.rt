@@ -1,6 +1,6 @@
 ghost use Rattle.std.specs.Prelude.{◌≡◌, ◌<◌, IsTrue};
 ghost use Rattle.std.specs.List.{All};
-ghost use Rattle.conf_tree.specs.Empty.{empty_conf};
+ghost use Rattle.filter_engine.specs.EmptySets.{empty_sets};
 ghost use Rattle.filter_engine.specs.Named.{AreNamed, IsNamed};
 
 use super::*;
@@ -17,26 +17,30 @@ use std::marker::Brand;
 use std::sync::ledger::{Blank, Ledger};
 use std::test::*;
 
-/// The sets of the empty configuration.
+/// One set of each kind, without entries.
 struct NoSets;
 
 impl Members for NoSets {
-    ghost use Rattle.conf_tree.specs.Empty.{empty_conf};
+    ghost use Rattle.filter_engine.specs.EmptySets.{empty_sets};
 
-    ghost conf_of = { λ _. empty_conf };
+    ghost conf_of = { λ _. empty_sets };
 
+    #[tactic(auto, using(crate::proofs::EmptySet::no_entries), unfolding(conf_tree::specs::Membership::in_prefix_set))]
     fn in_prefix_set(&self, _set: SetId, _prefix: Prefix) -> bool {
         false
     }
 
+    #[tactic(auto, using(crate::proofs::EmptySet::no_entries), unfolding(conf_tree::specs::Membership::in_prefix_set_or_longer))]
     fn in_prefix_set_or_longer(&self, _set: SetId, _prefix: Prefix) -> bool {
         false
     }
 
+    #[tactic(auto, using(crate::proofs::EmptySet::no_entries), unfolding(conf_tree::specs::Membership::in_as_set))]
     fn in_as_set(&self, _set: SetId, _asn: u32) -> bool {
         false
     }
 
+    #[tactic(auto, using(crate::proofs::EmptySet::no_entries), unfolding(conf_tree::specs::Membership::in_origin_set))]
     fn in_origin_set(&self, _set: SetId, _prefix: Prefix, _origin: Option<u32>) -> bool {
         false
     }
@@ -48,7 +52,7 @@ impl Members for NoSets {
 }
 
 fn names_no_set(condition: Condition) -> bool
-    ensures { IsTrue result → IsNamed empty_conf condition }
+    ensures { IsTrue result → IsNamed empty_sets condition }
 {
     match condition {
         Condition::PrefixSet(_) | Condition::PrefixSetOrLonger(_) => false,
@@ -58,7 +62,7 @@ fn names_no_set(condition: Condition) -> bool
 }
 
 fn name_no_sets(conditions: &[Condition]) -> bool
-    ensures { IsTrue result → All (IsNamed empty_conf) conditions.now }
+    ensures { IsTrue result → All (IsNamed empty_sets) conditions.now }
 {
     for condition in conditions {
         if !names_no_set(*condition) {
@@ -69,7 +73,7 @@ fn name_no_sets(conditions: &[Condition]) -> bool
 }
 
 fn rules_name_no_sets(rules: &[Rule]) -> bool
-    ensures { IsTrue result → AreNamed empty_conf rules.now }
+    ensures { IsTrue result → AreNamed empty_sets rules.now }
 {
     for rule in rules {
         if !name_no_sets(rule.conditions.as_slice()) {
@@ -428,7 +432,7 @@ fn decide_counted<L: Ledger>(
     route: &Attrs,
     blank: Blank,
 ) -> Result<Verdict, Fail>
-    requires named { AreNamed empty_conf rules.now }
+    requires named { AreNamed empty_sets rules.now }
     requires name { blank.name ≡ L.name }
     requires parts { blank.parts ≡ L.parts }
     requires some { 0 < blank.parts }

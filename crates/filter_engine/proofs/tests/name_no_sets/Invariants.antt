@@ -1,8 +1,8 @@
 use Rattle.std.proofs.Common.{take}
 use Rattle.std.specs.List.{All}
-use Rattle.conf_tree.specs.Empty.{empty_conf}
+use Rattle.filter_engine.specs.EmptySets.{empty_sets}
 use Rattle.filter_engine.specs.Named.{IsNamed}
 use Rattle.filter_engine.proofs.tests.name_no_sets.Given as goal
 
 abbrev pub invariant-loop-condition : goal.invariant-loop-condition
-invariant-loop-condition l = All (IsNamed empty_conf) (take l.condition-index l.conditions)
+invariant-loop-condition l = All (IsNamed empty_sets) (take l.condition-index l.conditions)
