@@ -1,1 +1,11 @@
 pub mod Framed
+pub mod Told
+pub mod Selected
+pub mod InOrder
+pub mod FrameBack
+pub mod NamesBack
+pub mod RibsBack
+pub mod RulesBack
+pub mod NoDoubles
+pub mod RulesKnown
+pub mod Whole
