@@ -14,3 +14,6 @@ pub mod CutForms
 pub mod SoundCuts
 pub mod TokenForms
 pub mod Whole
+pub mod Totals
+pub mod Sizes
+pub mod ChoiceSizes
