@@ -21,7 +21,7 @@ pub length_flat_map : {A B : Type 0} (f : A → List B) (xs : List A) → length
 length_flat_map {A} {B} f xs =
     sym (total_ones (flat_map f xs)) ∙ total_flat_map (λ (y : B). 1) f xs ∙ total_same (λ x. total (λ (y : B). 1) (f x)) (λ x. length (f x)) xs (λ x. total_ones (f x))
 
-length_mapped : {A B : Type 0} (f : A → B) (xs : List A) → length (map f xs) ≡ length xs
+pub length_mapped : {A B : Type 0} (f : A → B) (xs : List A) → length (map f xs) ≡ length xs
 length_mapped {A} {B} f xs = sym (total_ones (map f xs)) ∙ total_map (λ (y : B). 1) f xs ∙ total_ones xs
 
 total_constant : {A : Type 0} (k : ℕ) (xs : List A) → total (λ x. k) xs ≡ k * length xs

@@ -17,3 +17,7 @@ pub mod Whole
 pub mod Totals
 pub mod Sizes
 pub mod ChoiceSizes
+pub mod StatementCounts
+pub mod GroupNames
+pub mod GroupSizes
+pub mod LimitForms
