@@ -4,6 +4,7 @@ pub mod ValueForms
 pub mod ItemForms
 pub mod RuleForms
 pub mod NeighbourForms
+pub mod EntryForms
 pub mod StatementForms
 pub mod Lists
 pub mod FlatForms

@@ -1,4 +1,4 @@
--- Neighbours and groups are read in form.
+-- Neighbours and groups are read in form, and no more of them than there is room for.
 use Rattle.std.proofs.Common.{ℕ, zero, suc, ◌-◌, ◌≤◌, Bool, cond, eqb, List, [], ◌∷◌, codes, length, Ok, arith}
 use Rattle.net_base.specs.declared.conf.ConfKind.TheVariants.{NotInProfile}
 use Rattle.net_base.specs.declared.conf.Counted.TheVariants as counted

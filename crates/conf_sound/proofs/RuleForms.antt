@@ -1,4 +1,4 @@
--- Filter rules are read in form.
+-- Filter rules are read in form, and stand for no more flat rules than there is room for.
 use Rattle.std.proofs.Common.{◌≡◌, ℕ, zero, suc, ◌*◌, ◌-◌, ◌/◌, ◌≤◌, Bool, true, false, eqb, List, [], ◌∷◌, codes, length, Option, Some, None, Ok, refl, sym, subst, arith}
 use Rattle.std.proofs.Math.Nat.{le_trans, mul-le-mul_left, mul-div-le}
 use Rattle.std.proofs.lemmas.Nat.{le-div}
