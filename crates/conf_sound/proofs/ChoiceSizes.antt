@@ -114,7 +114,7 @@ module _ (conf : Conf) where
   conditions_size cs =
       let lists : List (List (List Condition)) = choices (map (ways conf) cs) in
       let all : length (flat_map choices lists) ≡ volume (total length) (map (ways conf) cs) =
-          length_flat_map choices lists ∙ total_same (λ choice. length (choices choice)) (volume length) lists choices_size ∙ choices_volume length (map (ways conf) cs) in
+      length_flat_map choices lists ∙ total_same (λ choice. length (choices choice)) (volume length) lists choices_size ∙ choices_volume length (map (ways conf) cs) in
       omega (arith, all, volume_factors cs)
 
   rules_for : (rule : RuleBlock) (peer : Peer) → List Rule
@@ -125,9 +125,9 @@ module _ (conf : Conf) where
   rule_size rule =
       let count : ℕ = length (flat_conditions conf rule.conditions) in
       let all : length (flat_map (rules_for rule) rule.peers) ≡ count * length rule.peers =
-          length_flat_map (rules_for rule) rule.peers
-          ∙ total_same (λ peer. length (rules_for rule peer)) (λ peer. count) rule.peers (λ peer. length_mapped (rule_with conf rule peer) (flat_conditions conf rule.conditions))
-          ∙ total_constant count rule.peers in
+      length_flat_map (rules_for rule) rule.peers
+      ∙ total_same (λ peer. length (rules_for rule peer)) (λ peer. count) rule.peers (λ peer. length_mapped (rule_with conf rule peer) (flat_conditions conf rule.conditions))
+      ∙ total_constant count rule.peers in
       omega (arith, all, mul_comm count (length rule.peers), mul-le-mul_left (length rule.peers) (conditions_size rule.conditions))
 
   pub rules_size : (lines : List StatementLine) → length (rules_of conf lines) ≤ total flat_rules_of (said rule_of lines)

@@ -32,8 +32,8 @@ one_place names (Some name) once = omega (arith, once name)
 counted_once : (ns : List Neighbour) (names : List (List ℕ)) → IsOnce names → length (filter is_alone ns) + total (λ name. length (filter (is_of_group name) ns)) names ≤ length ns
 counted_once ns names once =
     let in_groups : total (λ name. length (filter (is_of_group name) ns)) names ≡ total (λ n. total (λ name. one (is_of_group name n)) names) ns =
-        total_same (λ name. length (filter (is_of_group name) ns)) (λ name. total (λ n. one (is_of_group name n)) ns) names (λ name. length_filter (is_of_group name) ns)
-        ∙ total_swap (λ name n. one (is_of_group name n)) names ns in
+    total_same (λ name. length (filter (is_of_group name) ns)) (λ name. total (λ n. one (is_of_group name n)) ns) names (λ name. length_filter (is_of_group name) ns)
+    ∙ total_swap (λ name n. one (is_of_group name n)) names ns in
     let both = total_both (λ n. one (is_alone n)) (λ n. total (λ name. one (is_of_group name n)) names) ns in
     let each = total_le (λ n. one (is_alone n) + total (λ name. one (is_of_group name n)) names) (λ n. 1) ns (λ n. one_place names n.group once) in
     omega (arith, in_groups, both, each, length_filter is_alone ns, total_ones ns)

@@ -101,10 +101,13 @@ module _ (lists : Lists) where
       kept count n e few = rw e (omega (arith, few))
 
   divides : (lists' : Lists) (condition : ConditionBlock) (count : ℕ) → IsConditionBlock condition → factor condition ≡ count → lists'.room ≡ lists.room / count → 1 ≤ count → count ≤ lists.room → IsFound lists (condition, lists')
-  divides lists' condition count h same left some few = (h, record {
-    some = λ some_room. subst (λ room. 1 ≤ room) (sym left) (some_left count lists.room some few);
-    all = λ n at_most. subst (λ k. k * n ≤ lists.room) (sym same) (all_shared count lists.room n (subst (λ room. n ≤ room) left at_most));
-  })
+  divides lists' condition count h same left some few = (
+    h,
+    record {
+      some = λ some_room. subst (λ room. 1 ≤ room) (sym left) (some_left count lists.room some few);
+      all = λ n at_most. subst (λ k. k * n ≤ lists.room) (sym same) (all_shared count lists.room n (subst (λ room. n ≤ room) left at_most));
+    },
+  )
 
   prefix_list_form : (tokens : List Token) → AreGood tokens → Finds (IsFound lists) (prefix_list_at lists tokens)
   unfolding prefix_list_at
@@ -216,7 +219,7 @@ conditions_form lists room zero tokens g =
 conditions_form lists room (suc most) tokens g =
     let none : AreShared lists room [] = ((tt, omega arith), λ some. some) in
     let front : (x : Condition) (xs : List ConditionBlock) → IsMember (IsFound lists) (eqb room 0) x → AreShared x.1 (room - 1) xs → AreShared lists room (x.0 ∷ xs)
-        = λ x xs p q. (((p.0.0, q.0.0), one_more room (length xs) p.1 q.0.1), λ some. p.0.1.all (factors xs) (q.1 (p.0.1.some some))) in
+    = λ x xs p q. (((p.0.0, q.0.0), one_more room (length xs) p.1 q.0.1), λ some. p.0.1.all (factors xs) (q.1 (p.0.1.some some))) in
     either (ends_conditions tokens) (Ok ([], tokens))
     (condition_at lists (eqb room 0) tokens >>= λ first. conditions_at first.0.1 (room - 1) most first.1 >>= λ others. Ok (first.0.0 ∷ others.0, others.1))
     (λ e. ok _ _ none g)
