@@ -4,6 +4,7 @@ pub mod ValueForms
 pub mod ItemForms
 pub mod RuleForms
 pub mod NeighbourForms
+pub mod EntryForms
 pub mod StatementForms
 pub mod Lists
 pub mod FlatForms
@@ -14,3 +15,10 @@ pub mod CutForms
 pub mod SoundCuts
 pub mod TokenForms
 pub mod Whole
+pub mod Totals
+pub mod Sizes
+pub mod ChoiceSizes
+pub mod StatementCounts
+pub mod GroupNames
+pub mod GroupSizes
+pub mod LimitForms

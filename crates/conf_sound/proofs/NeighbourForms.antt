@@ -1,18 +1,19 @@
--- Neighbours and groups are read in form.
-use Rattle.std.proofs.Common.{ℕ, zero, suc, ◌-◌, Bool, cond, eqb, List, [], ◌∷◌, codes, length, Ok}
+-- Neighbours and groups are read in form, and no more of them than there is room for.
+use Rattle.std.proofs.Common.{ℕ, zero, suc, ◌-◌, ◌≤◌, Bool, cond, eqb, List, [], ◌∷◌, codes, length, Ok, arith}
 use Rattle.net_base.specs.declared.conf.ConfKind.TheVariants.{NotInProfile}
 use Rattle.net_base.specs.declared.conf.Counted.TheVariants as counted
 use Rattle.net_base.specs.declared.addr.Family.{Family}
 use Rattle.net_base.specs.declared.addr.Family.TheVariants as families
 use Rattle.conf_tree.specs.declared.token.Token.{Token}
+use Rattle.conf_tree.specs.declared.draft.GroupBlock.{GroupBlock}
 use Rattle.conf_tree.specs.declared.draft.NeighbourOption.TheVariants as options
 use Rattle.conf_tree.specs.declared.draft.SetPlace.TheVariants as places
 use Rattle.conf_tree.specs.Reading.{◌>>=◌, Reading, line_of, fails, behind, word_is, mark_is}
 use Rattle.conf_tree.specs.NeighbourReading.{remote_as_at, local_address_at, description_at, port_at, multihop_at, hold_min_option_at, hold_option_at, any_hold_option_at, family_at, announce_refresh_at, announce_as_4byte_at, capability_at, announce_at, max_prefix_at, rib_option_at, set_option_at, no_option_at, routing_option_at, session_option_at, connection_option_at, option_at, after_line_ends, separated_at, option_line_at, options_at, neighbour_body_at, neighbour_at, Members, with_option, with_neighbour, neighbour_line_at, group_members_at, group_at}
 use Rattle.conf_round.specs.Readable.{Each}
 use Rattle.conf_sound.specs.InForm.{IsOption, IsOptionLine, IsBlock, IsGroup}
-use Rattle.conf_sound.proofs.Finds.{AreGood, Finds, Leaves, ok, err, bind, bind_rest, either, wider, good_behind, reading}
-use Rattle.conf_sound.proofs.ReadingForms.{good_drop, unless_full_form, mark_form}
+use Rattle.conf_sound.proofs.Finds.{AreGood, Finds, Leaves, ok, err, bind, bind_rest, either, good_behind, reading}
+use Rattle.conf_sound.proofs.ReadingForms.{IsMember, AreAtMost, one_more, good_drop, unless_full_form, mark_form}
 use Rattle.conf_sound.proofs.ValueForms.{number_form, as_number_form, hold_form, yes_no_form, address_form, name_form, group_name_form, quoted_form}
 use Rattle.conf_sound.proofs.ItemForms.{set_form}
 
@@ -137,22 +138,23 @@ neighbour_body_form line tokens g =
     (λ address u rest. bind_rest _ _ (mark_form (codes "{") address.1 rest)
     (λ inside left. bind _ _ (options_form (length inside) inside left) (λ options h behind_them. ok _ _ h behind_them)))
 
-pub neighbour_form : (full : Bool) (tokens : List Token) → AreGood tokens → Finds IsBlock (neighbour_at full tokens)
+pub neighbour_form : (full : Bool) (tokens : List Token) → AreGood tokens → Finds (IsMember IsBlock full) (neighbour_at full tokens)
 unfolding neighbour_at
 neighbour_form full tokens g =
     let body : Finds IsBlock (neighbour_body_at (line_of tokens) (behind tokens)) = neighbour_body_form (line_of tokens) (behind tokens) (good_behind tokens g) in
-    wider _ (λ block p. p.0) (unless_full_form IsBlock full counted.Neighbours tokens _ (search (reading, body)))
+    unless_full_form IsBlock full counted.Neighbours tokens _ (search (reading, body))
 
 -- ---- groups
 
-neighbour_line_form : (full : Bool) (tokens : List Token) → AreGood tokens → Finds IsBlock (neighbour_line_at full tokens)
+neighbour_line_form : (full : Bool) (tokens : List Token) → AreGood tokens → Finds (IsMember IsBlock full) (neighbour_line_at full tokens)
 unfolding neighbour_line_at
 neighbour_line_form full tokens g = bind _ _ (neighbour_form full tokens g) (λ neighbour h rest. bind_rest _ _ (separated_form neighbour.1 rest) (λ after left. ok _ _ h left))
 
-abbrev AreMembers : Members → Type 0
-AreMembers members = Each IsOptionLine members.0 × Each IsBlock members.1
+-- members in form, and no more neighbours than there is room for
+abbrev AreMembers : ℕ → Members → Type 0
+AreMembers room members = Each IsOptionLine members.0 × AreAtMost IsBlock room members.1
 
-group_members_form : (room most : ℕ) (tokens : List Token) → AreGood tokens → Finds AreMembers (group_members_at room most tokens)
+group_members_form : (room most : ℕ) (tokens : List Token) → AreGood tokens → Finds (AreMembers room) (group_members_at room most tokens)
 unfolding group_members_at
 group_members_form room zero tokens g = err _
 group_members_form room (suc most) tokens g =
@@ -160,15 +162,19 @@ group_members_form room (suc most) tokens g =
     let g' : AreGood after = line_ends_good tokens g in
     let neighbour_first : Reading Members = neighbour_line_at (eqb room 0) after >>= λ first. group_members_at (room - 1) most first.1 >>= λ others. Ok (with_neighbour first.0 others.0, others.1) in
     let option_first : Reading Members = option_line_at after >>= λ first. group_members_at room most first.1 >>= λ others. Ok (with_option first.0 others.0, others.1) in
-    let neighbour_first_form : Finds AreMembers neighbour_first = bind _ _ (neighbour_line_form (eqb room 0) after g') (λ first p rest. bind _ _ (group_members_form (room - 1) most first.1 rest) (λ others q left. ok _ _ (q.0, (p, q.1)) left)) in
-    let option_first_form : Finds AreMembers option_first = bind _ _ (option_line_form after g') (λ first p rest. bind _ _ (group_members_form room most first.1 rest) (λ others q left. ok _ _ ((p, q.0), q.1) left)) in
+    let neighbour_first_form : Finds (AreMembers room) neighbour_first = bind _ _ (neighbour_line_form (eqb room 0) after g') (λ first p rest. bind _ _ (group_members_form (room - 1) most first.1 rest) (λ others q left. ok _ _ (q.0, ((p.0, q.1.0), one_more room (length others.0.1) p.1 q.1.1)) left)) in
+    let option_first_form : Finds (AreMembers room) option_first = bind _ _ (option_line_form after g') (λ first p rest. bind _ _ (group_members_form room most first.1 rest) (λ others q left. ok _ _ ((p, q.0), q.1) left)) in
     either (mark_is (codes "}") after) (Ok (([], []), behind after)) (cond (word_is (codes "neighbor") after) neighbour_first option_first)
-    (λ e. ok _ _ (tt, tt) (good_behind _ g'))
+    (λ e. ok _ _ (tt, (tt, omega arith)) (good_behind _ g'))
     (λ e. either (word_is (codes "neighbor") after) neighbour_first option_first (λ h. neighbour_first_form) (λ h. option_first_form))
 
-pub group_form : (room : ℕ) (tokens : List Token) → AreGood tokens → Finds IsGroup (group_at room tokens)
+-- a group in form, and no more neighbours than there is room for
+abbrev pub IsGroupWithin : ℕ → GroupBlock → Type 0
+IsGroupWithin room group = IsGroup group × (length group.neighbours ≤ room)
+
+pub group_form : (room : ℕ) (tokens : List Token) → AreGood tokens → Finds (IsGroupWithin room) (group_at room tokens)
 unfolding group_at
 group_form room tokens g =
     bind _ _ (group_name_form tokens g)
     (λ name h rest. bind_rest _ _ (mark_form (codes "{") name.1 rest)
-    (λ inside left. bind _ _ (group_members_form room (length inside) inside left) (λ members p behind_them. ok _ _ (h, p.0, p.1) behind_them)))
+    (λ inside left. bind _ _ (group_members_form room (length inside) inside left) (λ members p behind_them. ok _ _ ((h, p.0, p.1.0), p.1.1) behind_them)))

@@ -50,6 +50,9 @@ room_left room count some h = omega (arith, h, some)
 is_some : (room : ℕ) → eqb room 0 ≡ false → room ≡ 0 → ⊥
 is_some room e z = grind (arith, nat_tests)
 
+pub some_room : (room : ℕ) → eqb room 0 ≡ false → 1 ≤ room
+some_room room e = grind (arith, nat_tests)
+
 pub one_more : (room count : ℕ) → eqb room 0 ≡ false → count ≤ room - 1 → suc count ≤ room
 one_more room count e h = grind (arith, nat_tests)
 
@@ -71,18 +74,22 @@ pub list_form : {A : Type 0} (Is : A → Type 0) (read : Member A) (room : ℕ) 
 unfolding list_at
 list_form Is read room tokens reads g = members_form Is read room (length tokens) tokens reads g
 
-pub full_list_form : {A : Type 0} (Is : A → Type 0) (read : Member A) (room : ℕ) (tokens : List Token) → ReadsMembers Is read → AreGood tokens → Finds (AreAtMost Is room) (full_list_at read room tokens)
+-- one at least, and at most so many
+abbrev pub AreSome : {A : Type 0} → (A → Type 0) → ℕ → List A → Type 0
+AreSome Is most xs = AreAtMost Is most xs × (1 ≤ length xs)
+
+pub full_list_form : {A : Type 0} (Is : A → Type 0) (read : Member A) (room : ℕ) (tokens : List Token) → ReadsMembers Is read → AreGood tokens → Finds (AreSome Is room) (full_list_at read room tokens)
 unfolding full_list_at
 full_list_form {A} Is read room tokens reads g =
     let first_form : Finds (IsMember Is (eqb room 0)) (read (eqb room 0) (after_separators tokens)) = reads (eqb room 0) (after_separators tokens) (separators_good tokens g) in
     let others_form : (rest : List Token) → AreGood rest → Finds (AreAtMost Is (room - 1)) (list_at read (room - 1) rest) = λ rest g. list_form Is read (room - 1) rest reads g in
-    let front : (x : A) (xs : List A) → IsMember Is (eqb room 0) x → AreAtMost Is (room - 1) xs → AreAtMost Is room (x ∷ xs) = λ x xs p q. ((p.0, q.0), one_more room (length xs) p.1 q.1) in
+    let front : (x : A) (xs : List A) → IsMember Is (eqb room 0) x → AreAtMost Is (room - 1) xs → AreSome Is room (x ∷ xs) = λ x xs p q. (((p.0, q.0), one_more room (length xs) p.1 q.1), omega arith) in
     bind _ _ first_form (λ first p rest. bind _ _ (others_form first.1 rest) (λ others q left. ok _ _ (front first.0 others.0 p q) left))
 
-pub one_or_list_form : {A : Type 0} (Is : A → Type 0) (read : Member A) (room most : ℕ) (tokens : List Token) → room ≤ most → 1 ≤ most → ReadsMembers Is read → AreGood tokens → Finds (AreAtMost Is most) (one_or_list_at read room tokens)
+pub one_or_list_form : {A : Type 0} (Is : A → Type 0) (read : Member A) (room most : ℕ) (tokens : List Token) → room ≤ most → 1 ≤ most → ReadsMembers Is read → AreGood tokens → Finds (AreSome Is most) (one_or_list_at read room tokens)
 unfolding one_or_list_at
 one_or_list_form {A} Is read room most tokens h some reads g =
-    let many : Finds (AreAtMost Is most) (full_list_at read room (behind tokens)) = wider _ (λ xs p. (p.0, omega (arith, p.1, h))) (full_list_form Is read room (behind tokens) reads (good_behind tokens g)) in
+    let many : Finds (AreSome Is most) (full_list_at read room (behind tokens)) = wider _ (λ xs p. ((p.0.0, omega (arith, p.0.1, h)), p.1)) (full_list_form Is read room (behind tokens) reads (good_behind tokens g)) in
     let only_form : Finds (IsMember Is false) (read false tokens) = reads false tokens g in
-    let only : (x : A) → IsMember Is false x → AreAtMost Is most (x ∷ []) = λ x p. ((p.0, tt), omega (arith, some)) in
+    let only : (x : A) → IsMember Is false x → AreSome Is most (x ∷ []) = λ x p. (((p.0, tt), omega (arith, some)), omega arith) in
     search (reading, many, only_form, only) depth 9

@@ -1,8 +1,9 @@
--- The statements of a text are read in form.
-use Rattle.std.proofs.Common.{ℕ, zero, suc, Bool, true, false, cond, eqb, List, [], ◌∷◌, codes, length, Some, None, Result, Ok, Err, arith}
+-- The statements of a text are read in form, and no more of them than there is room for.
+use Rattle.std.proofs.Common.{ℕ, zero, suc, ◌≤◌, Bool, true, false, cond, eqb, List, [], ◌∷◌, codes, length, Result, Ok, Err}
 use Rattle.net_base.specs.declared.conf.ConfFault.{ConfFault}
+use Rattle.net_base.specs.declared.conf.ConfKind.TheVariants.{TooMany}
+use Rattle.net_base.specs.declared.conf.Counted.{Counted}
 use Rattle.net_base.specs.declared.conf.Counted.TheVariants as counted
-use Rattle.net_base.specs.declared.prefix.Prefix.{Prefix}
 use Rattle.conf_tree.specs.declared.token.Token.{Token}
 use Rattle.conf_tree.specs.declared.rule.Action.{Action}
 use Rattle.conf_tree.specs.declared.rule.Action.TheVariants as actions
@@ -10,203 +11,165 @@ use Rattle.conf_tree.specs.declared.draft.SetPlace.TheVariants as places
 use Rattle.conf_tree.specs.declared.draft.Statement.{Statement}
 use Rattle.conf_tree.specs.declared.draft.StatementLine.{StatementLine}
 use Rattle.conf_tree.specs.declared.draft.Draft.{Draft}
-use Rattle.conf_tree.specs.Reading.{◌>>=◌, Reading, behind, word_is, unless_full}
-use Rattle.conf_tree.specs.Values.{width}
-use Rattle.conf_tree.specs.StatementReading.{Room, all_room, room_behind, as_statement_at, router_id_at, hold_min_statement_at, hold_statement_at, any_hold_statement_at, fib_update_at, qualify_word_at, qualify_at, compare_word_at, med_compare_at, optional_table_at, rib_at, rde_at, socket_at, optional_port_at, listen_at, entry_at, prefix_entry_at, number_entry_at, optional_maxlen_at, source_at, authorization_at, counted_authorization_at, roa_entry_at, named_brace_at, prefix_set_at, as_set_at, origin_set_at, roa_set_at, network_body_at, network_at, neighbour_statement_at, group_statement_at, rule_statement_at, rule_word_at, peer_word_at, set_word_at, engine_word_at, statement_at, statement_line_at, after_empty_lines, statements_at, draft_of}
-use Rattle.conf_round.specs.Readable.{IfThere, IsName, IsWithin, IsRange, IsRoa, IsAs, IsLength}
-use Rattle.conf_sound.specs.InForm.{IsStatement, IsStatementLine, AreStatements}
-use Rattle.conf_sound.proofs.Finds.{AreGood, Finds, ok, bind, bind_rest, either, wider, good_behind, reading}
-use Rattle.conf_sound.proofs.ReadingForms.{IsMember, ReadsMembers, good_drop, unless_full_form, list_form, keyword_form, mark_form, line_end_form}
-use Rattle.conf_sound.proofs.ValueForms.{number_form, as_number_form, hold_form, yes_no_form, address_form, v4_form, prefix_form, own_length, name_form, quoted_form}
+use Rattle.conf_tree.specs.Reading.{◌>>=◌, Reading, fails, behind, unless_full}
+use Rattle.conf_tree.specs.StatementReading.{Room, all_room, room_behind, as_statement_at, router_id_at, hold_min_statement_at, hold_statement_at, any_hold_statement_at, fib_update_at, qualify_word_at, qualify_at, compare_word_at, med_compare_at, rib_at, rde_at, socket_at, listen_at, prefix_entry_at, number_entry_at, roa_entry_at, prefix_set_at, as_set_at, origin_set_at, roa_set_at, network_body_at, network_at, neighbour_statement_at, group_statement_at, rule_statement_at, rule_word_at, peer_word_at, set_word_at, engine_word_at, statement_at, statement_line_at, after_empty_lines, statements_at, draft_of}
+use Rattle.conf_round.specs.Readable.{IsRange, IsRoa, IsAs}
+use Rattle.conf_sound.specs.InForm.{IsStatement, AreStatements}
+use Rattle.conf_sound.specs.InRoom.{Fits, AllFit}
+use Rattle.conf_sound.proofs.Finds.{AreGood, Finds, ok, err, bind, bind_rest, either, good_behind, reading}
+use Rattle.conf_sound.proofs.ReadingForms.{some_room, good_drop, list_form, keyword_form, mark_form, line_end_form}
+use Rattle.conf_sound.proofs.ValueForms.{number_form, as_number_form, hold_form, yes_no_form, address_form, v4_form, prefix_form, name_form, quoted_form}
 use Rattle.conf_sound.proofs.ItemForms.{optional_set_form}
-use Rattle.conf_sound.proofs.RuleForms.{ranged_form, counted_number_form, rule_form}
+use Rattle.conf_sound.proofs.RuleForms.{rule_form}
 use Rattle.conf_sound.proofs.NeighbourForms.{neighbour_form, group_form}
+use Rattle.conf_sound.proofs.EntryForms.{optional_table_form, optional_port_form, prefix_entry_form, number_entry_form, roa_entry_form, named_brace_form}
 
--- ---- global settings
+-- in form, and there is room for what it counts
+abbrev IsFitting : Room → Statement → Type 0
+IsFitting room statement = IsStatement statement × Fits room statement
 
-as_form : (tokens : List Token) → AreGood tokens → Finds IsStatement (as_statement_at tokens)
-unfolding as_statement_at
-as_form tokens g = bind _ _ (as_number_form 1 tokens g) (λ asn h rest. ok _ _ h rest)
+abbrev IsFittingLine : Room → StatementLine → Type 0
+IsFittingLine room line = IsFitting room line.statement
 
-router_id_form : (tokens : List Token) → AreGood tokens → Finds IsStatement (router_id_at tokens)
-unfolding router_id_at
-router_id_form tokens g = bind _ _ (v4_form tokens g) (λ id h rest. ok _ _ h rest)
-
-hold_min_statement_form : (tokens : List Token) → AreGood tokens → Finds IsStatement (hold_min_statement_at tokens)
-unfolding hold_min_statement_at
-hold_min_statement_form tokens g = bind _ _ (number_form 3 65535 tokens g) (λ seconds h rest. ok _ _ h rest)
-
-hold_statement_form : (tokens : List Token) → AreGood tokens → Finds IsStatement (hold_statement_at tokens)
-unfolding hold_statement_at
-hold_statement_form tokens g = bind _ _ (hold_form tokens g) (λ seconds h rest. ok _ _ h rest)
-
-any_hold_statement_form : (tokens : List Token) → AreGood tokens → Finds IsStatement (any_hold_statement_at tokens)
-unfolding any_hold_statement_at
-any_hold_statement_form tokens g = search (reading, hold_min_statement_form, hold_statement_form, g)
-
-fib_update_form : (tokens : List Token) → AreGood tokens → Finds IsStatement (fib_update_at tokens)
-unfolding fib_update_at
-fib_update_form tokens g = bind _ _ (yes_no_form tokens g) (λ on h rest. ok _ _ tt rest)
-
-qualify_word_form : (tokens : List Token) → AreGood tokens → Finds IsStatement (qualify_word_at tokens)
-unfolding qualify_word_at
-qualify_word_form tokens g = search (reading, g, tt) depth 9
-
-qualify_form : (tokens : List Token) → AreGood tokens → Finds IsStatement (qualify_at tokens)
-unfolding qualify_at
-qualify_form tokens g = bind_rest _ _ (keyword_form (codes "qualify") tokens g) (λ via rest. bind_rest _ _ (keyword_form (codes "via") via rest) (λ what left. qualify_word_form what left))
-
-compare_word_form : (tokens : List Token) → AreGood tokens → Finds IsStatement (compare_word_at tokens)
-unfolding compare_word_at
-compare_word_form tokens g = search (reading, g, tt) depth 9
-
-med_compare_form : (tokens : List Token) → AreGood tokens → Finds IsStatement (med_compare_at tokens)
-unfolding med_compare_at
-med_compare_form tokens g = bind_rest _ _ (keyword_form (codes "compare") tokens g) (λ how rest. compare_word_form how rest)
-
-optional_table_form : (tokens : List Token) → AreGood tokens → Finds (IfThere (IsWithin 1 255)) (optional_table_at tokens)
-unfolding optional_table_at
-optional_table_form tokens g =
-    either (word_is (codes "rtable") tokens) (_ >>= λ table. Ok (Some table.0, table.1)) (Ok (None, tokens))
-    (λ e. bind _ _ (number_form 1 255 (behind tokens) (good_behind tokens g)) (λ table h rest. ok _ _ h rest)) (λ e. ok _ _ tt g)
-
-rib_form : (tokens : List Token) → AreGood tokens → Finds IsStatement (rib_at tokens)
-unfolding rib_at
-rib_form tokens g = bind _ _ (name_form tokens g) (λ name h rest. bind _ _ (optional_table_form name.1 rest) (λ table k left. ok _ _ (h, k) left))
-
--- a statement that there may be no room for
-full_form : (full : Bool) (tokens : List Token) (kind : _) (reading : Reading Statement) → Finds IsStatement reading → Finds IsStatement (unless_full full kind tokens reading)
-full_form full tokens kind reading h = wider _ (λ x p. p.0) (unless_full_form IsStatement full kind tokens reading h)
-
-rde_form : (room : Room) (tokens : List Token) → AreGood tokens → Finds IsStatement (rde_at room tokens)
-unfolding rde_at
-rde_form room tokens g = search (reading, med_compare_form, full_form (eqb room.ribs 0) tokens counted.Ribs (rib_at (behind tokens)) (rib_form (behind tokens) (good_behind tokens g)), g) depth 9
-
-socket_form : (tokens : List Token) → AreGood tokens → Finds IsStatement (socket_at tokens)
-unfolding socket_at
-socket_form tokens g = bind _ _ (quoted_form tokens g) (λ path h rest. ok _ _ h rest)
-
-optional_port_form : (tokens : List Token) → AreGood tokens → Finds (IsWithin 1 65535) (optional_port_at tokens)
-unfolding optional_port_at
-optional_port_form tokens g =
-    let usual : IsWithin 1 65535 179 = record { least = omega arith; most = omega arith } in
-    search (reading, number_form 1 65535, usual, g)
-
-listen_form : (tokens : List Token) → AreGood tokens → Finds IsStatement (listen_at tokens)
-unfolding listen_at
-listen_form tokens g =
-    bind_rest _ _ (keyword_form (codes "on") tokens g)
-    (λ where_to rest. bind _ _ (address_form where_to rest) (λ address u left. bind _ _ (optional_port_form address.1 left) (λ port h behind_it. ok _ _ h behind_it)))
-
--- ---- sets
-
-entry_form : {A : Type 0} (Is : A → Type 0) (tokens : List Token) (found : Reading A) → Finds Is found → Finds Is (entry_at tokens found)
-unfolding entry_at
-entry_form Is tokens found h = search (reading, h)
-
-prefix_entry_form : ReadsMembers IsRange prefix_entry_at
-unfolding prefix_entry_at
-prefix_entry_form full tokens g = entry_form (IsMember IsRange full) tokens _ (ranged_form full counted.Entries tokens g)
-
-number_entry_form : ReadsMembers IsAs number_entry_at
-unfolding number_entry_at
-number_entry_form full tokens g = entry_form (IsMember IsAs full) tokens _ (counted_number_form 1 full counted.Entries tokens g)
-
-optional_maxlen_form : (p : Prefix) (tokens : List Token) → AreGood tokens → Finds (IsLength p) (optional_maxlen_at p tokens)
-unfolding optional_maxlen_at
-optional_maxlen_form p tokens g = search (reading, number_form p.len (width p), own_length p, g)
-
-source_form : (tokens : List Token) → AreGood tokens → Finds (IsWithin 0 4294967295) (source_at tokens)
-unfolding source_at
-source_form tokens g = entry_form (IsWithin 0 4294967295) tokens _ (bind_rest _ _ (keyword_form (codes "source-as") tokens g) (λ rest left. as_number_form 0 rest left))
-
-authorization_form : (p : Prefix) (tokens : List Token) → AreGood tokens → Finds IsRoa (authorization_at p tokens)
-unfolding authorization_at
-authorization_form p tokens g = bind _ _ (optional_maxlen_form p tokens g) (λ maxlen h rest. bind _ _ (source_form maxlen.1 rest) (λ source k left. ok _ _ (h, k) left))
-
-counted_authorization_form : ReadsMembers IsRoa counted_authorization_at
-unfolding counted_authorization_at
-counted_authorization_form full tokens g =
-    bind _ _ (prefix_form tokens g) (λ p u rest. unless_full_form IsRoa full counted.Entries tokens (authorization_at p.0 p.1) (authorization_form p.0 p.1 rest))
-
-roa_entry_form : ReadsMembers IsRoa roa_entry_at
-unfolding roa_entry_at
-roa_entry_form full tokens g = entry_form (IsMember IsRoa full) tokens _ (counted_authorization_form full tokens g)
-
-named_brace_form : (tokens : List Token) → AreGood tokens → Finds IsName (named_brace_at tokens)
-unfolding named_brace_at
-named_brace_form tokens g = bind _ _ (name_form tokens g) (λ name h rest. bind_rest _ _ (mark_form (codes "{") name.1 rest) (λ inside left. ok _ _ h left))
+-- what a statement with no value of its own takes
+nothing : Unit {0} × Unit {0}
+nothing = (tt, tt)
 
 module _ (room : Room) where
-  prefix_set_form : (tokens : List Token) → AreGood tokens → Finds IsStatement (prefix_set_at room tokens)
+  -- ---- global settings
+
+  as_form : (tokens : List Token) → AreGood tokens → Finds (IsFitting room) (as_statement_at tokens)
+  unfolding as_statement_at
+  as_form tokens g = bind _ _ (as_number_form 1 tokens g) (λ asn h rest. ok _ _ (h, tt) rest)
+
+  router_id_form : (tokens : List Token) → AreGood tokens → Finds (IsFitting room) (router_id_at tokens)
+  unfolding router_id_at
+  router_id_form tokens g = bind _ _ (v4_form tokens g) (λ id h rest. ok _ _ (h, tt) rest)
+
+  hold_min_statement_form : (tokens : List Token) → AreGood tokens → Finds (IsFitting room) (hold_min_statement_at tokens)
+  unfolding hold_min_statement_at
+  hold_min_statement_form tokens g = bind _ _ (number_form 3 65535 tokens g) (λ seconds h rest. ok _ _ (h, tt) rest)
+
+  hold_statement_form : (tokens : List Token) → AreGood tokens → Finds (IsFitting room) (hold_statement_at tokens)
+  unfolding hold_statement_at
+  hold_statement_form tokens g = bind _ _ (hold_form tokens g) (λ seconds h rest. ok _ _ (h, tt) rest)
+
+  any_hold_statement_form : (tokens : List Token) → AreGood tokens → Finds (IsFitting room) (any_hold_statement_at tokens)
+  unfolding any_hold_statement_at
+  any_hold_statement_form tokens g = search (reading, hold_min_statement_form, hold_statement_form, g)
+
+  fib_update_form : (tokens : List Token) → AreGood tokens → Finds (IsFitting room) (fib_update_at tokens)
+  unfolding fib_update_at
+  fib_update_form tokens g = bind _ _ (yes_no_form tokens g) (λ on h rest. ok _ _ (tt, tt) rest)
+
+  qualify_word_form : (tokens : List Token) → AreGood tokens → Finds (IsFitting room) (qualify_word_at tokens)
+  unfolding qualify_word_at
+  qualify_word_form tokens g = search (reading, g, nothing) depth 9
+
+  qualify_form : (tokens : List Token) → AreGood tokens → Finds (IsFitting room) (qualify_at tokens)
+  unfolding qualify_at
+  qualify_form tokens g = bind_rest _ _ (keyword_form (codes "qualify") tokens g) (λ via rest. bind_rest _ _ (keyword_form (codes "via") via rest) (λ what left. qualify_word_form what left))
+
+  compare_word_form : (tokens : List Token) → AreGood tokens → Finds (IsFitting room) (compare_word_at tokens)
+  unfolding compare_word_at
+  compare_word_form tokens g = search (reading, g, nothing) depth 9
+
+  med_compare_form : (tokens : List Token) → AreGood tokens → Finds (IsFitting room) (med_compare_at tokens)
+  unfolding med_compare_at
+  med_compare_form tokens g = bind_rest _ _ (keyword_form (codes "compare") tokens g) (λ how rest. compare_word_form how rest)
+
+  rib_form : 1 ≤ room.ribs → (tokens : List Token) → AreGood tokens → Finds (IsFitting room) (rib_at tokens)
+  unfolding rib_at
+  rib_form some tokens g = bind _ _ (name_form tokens g) (λ name h rest. bind _ _ (optional_table_form name.1 rest) (λ table k left. ok _ _ ((h, k), some) left))
+
+  -- a statement that there may be no room for
+  full_form : (left : ℕ) (tokens : List Token) (kind : Counted) (found : Reading Statement) → (1 ≤ left → Finds (IsFitting room) found) → Finds (IsFitting room) (unless_full (eqb left 0) kind tokens found)
+  unfolding unless_full
+  full_form left tokens kind found h = either (eqb left 0) (fails (TooMany kind) tokens) found (λ e. err _) (λ e. h (some_room left e))
+
+  rde_form : (tokens : List Token) → AreGood tokens → Finds (IsFitting room) (rde_at room tokens)
+  unfolding rde_at
+  rde_form tokens g = search (reading, med_compare_form, full_form room.ribs tokens counted.Ribs (rib_at (behind tokens)) (λ some. rib_form some (behind tokens) (good_behind tokens g)), g) depth 9
+
+  socket_form : (tokens : List Token) → AreGood tokens → Finds (IsFitting room) (socket_at tokens)
+  unfolding socket_at
+  socket_form tokens g = bind _ _ (quoted_form tokens g) (λ path h rest. ok _ _ (h, tt) rest)
+
+  listen_form : 1 ≤ room.listens → (tokens : List Token) → AreGood tokens → Finds (IsFitting room) (listen_at tokens)
+  unfolding listen_at
+  listen_form some tokens g =
+      bind_rest _ _ (keyword_form (codes "on") tokens g)
+      (λ where_to rest. bind _ _ (address_form where_to rest) (λ address u left. bind _ _ (optional_port_form address.1 left) (λ port h behind_it. ok _ _ (h, some) behind_it)))
+
+  prefix_set_form : (tokens : List Token) → AreGood tokens → Finds (IsFitting room) (prefix_set_at room tokens)
   unfolding prefix_set_at
-  prefix_set_form tokens g = bind _ _ (named_brace_form tokens g) (λ name h rest. bind _ _ (list_form IsRange prefix_entry_at room.entries name.1 prefix_entry_form rest) (λ entries k left. ok _ _ (h, k.0) left))
+  prefix_set_form tokens g = bind _ _ (named_brace_form tokens g) (λ name h rest. bind _ _ (list_form IsRange prefix_entry_at room.entries name.1 prefix_entry_form rest) (λ entries k left. ok _ _ ((h, k.0), k.1) left))
 
-  as_set_form : (tokens : List Token) → AreGood tokens → Finds IsStatement (as_set_at room tokens)
+  as_set_form : (tokens : List Token) → AreGood tokens → Finds (IsFitting room) (as_set_at room tokens)
   unfolding as_set_at
-  as_set_form tokens g = bind _ _ (named_brace_form tokens g) (λ name h rest. bind _ _ (list_form IsAs number_entry_at room.entries name.1 number_entry_form rest) (λ numbers k left. ok _ _ (h, k.0) left))
+  as_set_form tokens g = bind _ _ (named_brace_form tokens g) (λ name h rest. bind _ _ (list_form IsAs number_entry_at room.entries name.1 number_entry_form rest) (λ numbers k left. ok _ _ ((h, k.0), k.1) left))
 
-  origin_set_form : (tokens : List Token) → AreGood tokens → Finds IsStatement (origin_set_at room tokens)
+  origin_set_form : (tokens : List Token) → AreGood tokens → Finds (IsFitting room) (origin_set_at room tokens)
   unfolding origin_set_at
-  origin_set_form tokens g = bind _ _ (named_brace_form tokens g) (λ name h rest. bind _ _ (list_form IsRoa roa_entry_at room.entries name.1 roa_entry_form rest) (λ entries k left. ok _ _ (h, k.0) left))
+  origin_set_form tokens g = bind _ _ (named_brace_form tokens g) (λ name h rest. bind _ _ (list_form IsRoa roa_entry_at room.entries name.1 roa_entry_form rest) (λ entries k left. ok _ _ ((h, k.0), k.1) left))
 
-  roa_set_form : (tokens : List Token) → AreGood tokens → Finds IsStatement (roa_set_at room tokens)
+  roa_set_form : (tokens : List Token) → AreGood tokens → Finds (IsFitting room) (roa_set_at room tokens)
   unfolding roa_set_at
-  roa_set_form tokens g = bind_rest _ _ (mark_form (codes "{") tokens g) (λ inside rest. bind _ _ (list_form IsRoa roa_entry_at room.entries inside roa_entry_form rest) (λ entries k left. ok _ _ k.0 left))
+  roa_set_form tokens g = bind_rest _ _ (mark_form (codes "{") tokens g) (λ inside rest. bind _ _ (list_form IsRoa roa_entry_at room.entries inside roa_entry_form rest) (λ entries k left. ok _ _ (k.0, k.1) left))
 
   -- ---- networks, neighbours, groups and rules
 
-  network_body_form : (tokens : List Token) → AreGood tokens → Finds IsStatement (network_body_at tokens)
+  network_body_form : 1 ≤ room.networks → (tokens : List Token) → AreGood tokens → Finds (IsFitting room) (network_body_at tokens)
   unfolding network_body_at
-  network_body_form tokens g = bind _ _ (prefix_form tokens g) (λ p u rest. bind _ _ (optional_set_form places.Network p.1 rest) (λ set h left. ok _ _ h left))
+  network_body_form some tokens g = bind _ _ (prefix_form tokens g) (λ p u rest. bind _ _ (optional_set_form places.Network p.1 rest) (λ set h left. ok _ _ (h, some) left))
 
-  network_form : (tokens : List Token) → AreGood tokens → Finds IsStatement (network_at tokens)
+  network_form : 1 ≤ room.networks → (tokens : List Token) → AreGood tokens → Finds (IsFitting room) (network_at tokens)
   unfolding network_at
-  network_form tokens g = search (reading, network_body_form tokens g)
+  network_form some tokens g = search (reading, network_body_form some tokens g)
 
-  neighbour_statement_form : (tokens : List Token) → AreGood tokens → Finds IsStatement (neighbour_statement_at room tokens)
+  neighbour_statement_form : (tokens : List Token) → AreGood tokens → Finds (IsFitting room) (neighbour_statement_at room tokens)
   unfolding neighbour_statement_at
-  neighbour_statement_form tokens g = bind _ _ (neighbour_form (eqb room.neighbours 0) tokens g) (λ neighbour h rest. ok _ _ h rest)
+  neighbour_statement_form tokens g = bind _ _ (neighbour_form (eqb room.neighbours 0) tokens g) (λ neighbour h rest. ok _ _ (h.0, some_room room.neighbours h.1) rest)
 
-  group_statement_form : (tokens : List Token) → AreGood tokens → Finds IsStatement (group_statement_at room tokens)
+  group_statement_form : 1 ≤ room.groups → (tokens : List Token) → AreGood tokens → Finds (IsFitting room) (group_statement_at room tokens)
   unfolding group_statement_at
-  group_statement_form tokens g = bind _ _ (group_form room.neighbours tokens g) (λ group h rest. ok _ _ h rest)
+  group_statement_form some tokens g = bind _ _ (group_form room.neighbours tokens g) (λ group h rest. ok _ _ (h.0, (some, h.1)) rest)
 
-  rule_statement_form : (action : Action) (tokens : List Token) → AreGood tokens → Finds IsStatement (rule_statement_at room action tokens)
+  rule_statement_form : (action : Action) (tokens : List Token) → AreGood tokens → Finds (IsFitting room) (rule_statement_at room action tokens)
   unfolding rule_statement_at
-  rule_statement_form action tokens g = full_form (eqb room.rules 0) tokens counted.Rules _ (bind _ _ (rule_form room.rules action (behind tokens) (good_behind tokens g)) (λ rule h rest. ok _ _ h rest))
+  rule_statement_form action tokens g = full_form room.rules tokens counted.Rules _ (λ some. bind _ _ (rule_form room.rules some action (behind tokens) (good_behind tokens g)) (λ rule h rest. ok _ _ h rest))
 
   -- ---- a statement by its word
 
-  rule_word_form : (tokens : List Token) → AreGood tokens → Finds IsStatement (rule_word_at room tokens)
+  rule_word_form : (tokens : List Token) → AreGood tokens → Finds (IsFitting room) (rule_word_at room tokens)
   unfolding rule_word_at
   rule_word_form tokens g = search (reading, rule_statement_form actions.Allow tokens g, rule_statement_form actions.Deny tokens g, rule_statement_form actions.Match tokens g) depth 9
 
-  peer_word_form : (tokens : List Token) → AreGood tokens → Finds IsStatement (peer_word_at room tokens)
+  peer_word_form : (tokens : List Token) → AreGood tokens → Finds (IsFitting room) (peer_word_at room tokens)
   unfolding peer_word_at
   peer_word_form tokens g =
       search (
         reading,
-        full_form (eqb room.networks 0) tokens counted.Networks (network_at (behind tokens)) (network_form (behind tokens) (good_behind tokens g)),
+        full_form room.networks tokens counted.Networks (network_at (behind tokens)) (λ some. network_form some (behind tokens) (good_behind tokens g)),
         neighbour_statement_form tokens g,
-        full_form (eqb room.groups 0) tokens counted.Groups (group_statement_at room (behind tokens)) (group_statement_form (behind tokens) (good_behind tokens g)),
+        full_form room.groups tokens counted.Groups (group_statement_at room (behind tokens)) (λ some. group_statement_form some (behind tokens) (good_behind tokens g)),
         rule_word_form tokens g,
       ) depth 9
 
-  set_word_form : (tokens : List Token) → AreGood tokens → Finds IsStatement (set_word_at room tokens)
+  set_word_form : (tokens : List Token) → AreGood tokens → Finds (IsFitting room) (set_word_at room tokens)
   unfolding set_word_at
   set_word_form tokens g = search (reading, prefix_set_form, as_set_form, origin_set_form, roa_set_form, peer_word_form, g) depth 9
 
-  engine_word_form : (tokens : List Token) → AreGood tokens → Finds IsStatement (engine_word_at room tokens)
+  engine_word_form : (tokens : List Token) → AreGood tokens → Finds (IsFitting room) (engine_word_at room tokens)
   unfolding engine_word_at
   engine_word_form tokens g =
-      search (reading, qualify_form, rde_form room, socket_form, full_form (eqb room.listens 0) tokens counted.Listens (listen_at (behind tokens)) (listen_form (behind tokens) (good_behind tokens g)), set_word_form, g) depth 9
+      search (reading, qualify_form, rde_form, socket_form, full_form room.listens tokens counted.Listens (listen_at (behind tokens)) (λ some. listen_form some (behind tokens) (good_behind tokens g)), set_word_form, g) depth 9
 
-  statement_form : (tokens : List Token) → AreGood tokens → Finds IsStatement (statement_at room tokens)
+  statement_form : (tokens : List Token) → AreGood tokens → Finds (IsFitting room) (statement_at room tokens)
   unfolding statement_at
   statement_form tokens g = search (reading, as_form, router_id_form, any_hold_statement_form, fib_update_form, engine_word_form, g) depth 9
 
-  statement_line_form : (tokens : List Token) → AreGood tokens → Finds IsStatementLine (statement_line_at room tokens)
+  statement_line_form : (tokens : List Token) → AreGood tokens → Finds (IsFittingLine room) (statement_line_at room tokens)
   unfolding statement_line_at
   statement_line_form tokens g = bind _ _ (statement_form tokens g) (λ statement h rest. bind_rest _ _ (line_end_form statement.1 rest) (λ after left. ok _ _ h left))
 
@@ -220,35 +183,39 @@ abbrev pub Gives : {A : Type 0} → (A → Type 0) → Result A ConfFault → Ty
 Gives Is (Ok x) = Is x
 Gives Is (Err fault) = Unit {0}
 
-gives_front : (first : StatementLine) (r : Result (List StatementLine) ConfFault) → IsStatementLine first → Gives AreStatements r → Gives AreStatements (r >>= λ others. Ok (first ∷ others))
-gives_front first (Ok others) h k = (h, k)
-gives_front first (Err fault) h k = tt
+-- statements in form, with room for all that they count
+abbrev pub AreFitting : Room → List StatementLine → Type 0
+AreFitting room lines = AreStatements lines × AllFit room lines
+
+gives_front : (room : Room) (first : StatementLine) (r : Result (List StatementLine) ConfFault) → IsFittingLine room first → Gives (AreFitting (room_behind room first.statement)) r → Gives (AreFitting room) (r >>= λ others. Ok (first ∷ others))
+gives_front room first (Ok others) h k = ((h.0, k.0), (h.1, k.1))
+gives_front room first (Err fault) h k = tt
 
 gives_behind : {A : Type 0} {P : A → Type 0} (Q : List StatementLine → Type 0) (r : Reading A) (f : A × List Token → Result (List StatementLine) ConfFault) → Finds P r → ((x : A × List Token) → P x.0 → AreGood x.1 → Gives Q (f x)) → Gives Q (r >>= f)
 gives_behind Q (Ok x) f h then = then x h.found.0 h.found.1
 gives_behind Q (Err fault) f h then = tt
 
-gives_either : (b : Bool) (x y : Result (List StatementLine) ConfFault) → Gives AreStatements x → Gives AreStatements y → Gives AreStatements (cond b x y)
-gives_either true x y h k = h
-gives_either false x y h k = k
+gives_either : (Q : List StatementLine → Type 0) (b : Bool) (x y : Result (List StatementLine) ConfFault) → Gives Q x → Gives Q y → Gives Q (cond b x y)
+gives_either Q true x y h k = h
+gives_either Q false x y h k = k
 
-statements_form : (room : Room) (most : ℕ) (tokens : List Token) → AreGood tokens → Gives AreStatements (statements_at room most tokens)
+statements_form : (room : Room) (most : ℕ) (tokens : List Token) → AreGood tokens → Gives (AreFitting room) (statements_at room most tokens)
 unfolding statements_at
-statements_form room zero tokens g = tt
+statements_form room zero tokens g = nothing
 statements_form room (suc most) tokens g =
     let after : List Token = after_empty_lines tokens in
-    gives_either (eqb (length after) 0) (Ok []) _ tt
-    (gives_behind AreStatements (statement_line_at room after) (λ first. statements_at (room_behind room first.0.statement) most first.1 >>= λ others. Ok (first.0 ∷ others)) (statement_line_form room after (empty_lines_good tokens g))
-    (λ first h rest. gives_front first.0 (statements_at (room_behind room first.0.statement) most first.1) h (statements_form (room_behind room first.0.statement) most first.1 rest)))
+    gives_either (AreFitting room) (eqb (length after) 0) (Ok []) _ nothing
+    (gives_behind (AreFitting room) (statement_line_at room after) (λ first. statements_at (room_behind room first.0.statement) most first.1 >>= λ others. Ok (first.0 ∷ others)) (statement_line_form room after (empty_lines_good tokens g))
+    (λ first h rest. gives_front room first.0 (statements_at (room_behind room first.0.statement) most first.1) h (statements_form (room_behind room first.0.statement) most first.1 rest)))
 
 abbrev pub IsDraft : Draft → Type 0
-IsDraft draft = AreStatements draft.statements
+IsDraft draft = AreFitting all_room draft.statements
 
 -- the draft that good tokens write
 pub draft_form : (tokens : List Token) → AreGood tokens → Gives IsDraft (draft_of tokens)
 unfolding draft_of
 draft_form tokens g = made (statements_at all_room (length tokens) tokens) (statements_form all_room (length tokens) tokens g)
   where
-    made : (r : Result (List StatementLine) ConfFault) → Gives AreStatements r → Gives IsDraft (r >>= λ statements. Ok (record { statements = statements }))
+    made : (r : Result (List StatementLine) ConfFault) → Gives (AreFitting all_room) r → Gives IsDraft (r >>= λ statements. Ok (record { statements = statements }))
     made (Ok statements) h = h
     made (Err fault) h = tt

@@ -7,11 +7,12 @@ use Rattle.conf_tree.specs.Tokens.{tokens}
 use Rattle.conf_tree.specs.StatementReading.{draft_of}
 use Rattle.conf_tree.specs.Checks.{checked}
 use Rattle.conf_tree.specs.Language.{draft_within, configuration_within}
-use Rattle.conf_round.specs.Readable.{IsReadable}
+use Rattle.conf_round.specs.Readable.{IsReadable, IsWithinLimits}
 use Rattle.conf_sound.proofs.Finds.{AreGood}
 use Rattle.conf_sound.proofs.StatementForms.{Gives, IsDraft, draft_form}
 use Rattle.conf_sound.proofs.TokenForms.{tokens_form}
 use Rattle.conf_sound.proofs.WholeForms.{checked_form}
+use Rattle.conf_sound.proofs.LimitForms.{checked_within}
 
 -- what comes of a part that gives good values
 module _ {A B : Type 0} (Is : A → Type 0) (Now : B → Type 0) (f : A → Result B ConfFault) (w : (x : A) → Is x → Gives Now (f x)) where
@@ -30,3 +31,11 @@ configuration_form limit text = gives_then IsDraft IsReadable checked checked_fo
 -- a configuration that a text says can be written
 pub readable : (limit : ℕ) (text : List ℕ) (conf : Conf) → configuration_within limit text ≡ Ok conf → IsReadable conf
 readable limit text conf e = subst (Gives IsReadable) e (configuration_form limit text)
+
+limits_form : (limit : ℕ) (text : List ℕ) → Gives IsWithinLimits (configuration_within limit text)
+unfolding configuration_within
+limits_form limit text = gives_then IsDraft IsWithinLimits checked checked_within (draft_within limit text) (draft_within_form limit text)
+
+-- a configuration that a text says has no more of anything than a text may have
+pub within_limits : (limit : ℕ) (text : List ℕ) (conf : Conf) → configuration_within limit text ≡ Ok conf → IsWithinLimits conf
+within_limits limit text conf e = subst (Gives IsWithinLimits) e (limits_form limit text)

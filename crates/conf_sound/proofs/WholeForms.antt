@@ -144,5 +144,5 @@ unfolding checked
 checked_form draft h = by (first_fault draft.statements) refl
   where
     by : (fault : Option ConfFault) → first_fault draft.statements ≡ fault → Gives IsReadable (option_map_or Err fault (Ok (flat draft.statements)))
-    by None e = flat_form draft.statements h (no_fault draft.statements e)
+    by None e = flat_form draft.statements h.0 (no_fault draft.statements e)
     by (Some fault) e = tt

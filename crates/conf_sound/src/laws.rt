@@ -1,11 +1,17 @@
 ghost use Rattle.std.specs.Prelude.{◌≡◌, ℕ, List, Ok};
 ghost use Rattle.conf_tree.specs.declared.conf.Conf.{Conf};
 ghost use Rattle.conf_tree.specs.Language.{configuration_within};
-ghost use Rattle.conf_round.specs.Readable.{IsReadable};
+ghost use Rattle.conf_round.specs.Readable.{IsReadable, IsWithinLimits};
 
 /// Each value of a configuration that a text says can be written: numbers are within the ranges of their statements,
 /// names and quoted texts have the form and the length that a text can give them, names stand for RIBs and sets that
 /// there are, and no rule has more conditions or items than a text can say.
 pub fn configurations_can_be_written()
     ensures { (limit : ℕ) (text : List ℕ) (conf : Conf) → configuration_within limit text ≡ Ok conf → IsReadable conf }
+{}
+
+/// No configuration that a text says has more of anything than a text may have: at most 8 listening addresses, 15 RIBs
+/// beside Loc-RIB, 262,144 entries in all sets together, 4,096 networks, 256 neighbours, 64 groups and 4,096 flat rules.
+pub fn configurations_are_within_limits()
+    ensures { (limit : ℕ) (text : List ℕ) (conf : Conf) → configuration_within limit text ≡ Ok conf → IsWithinLimits conf }
 {}
