@@ -1,0 +1,2 @@
+//! How long the canonical text of a configuration is.
+#![tactic(auto)]
