@@ -14,3 +14,9 @@ pub mod CutForms
 pub mod SoundCuts
 pub mod TokenForms
 pub mod Whole
+pub mod SettledLists
+pub mod SettledNames
+pub mod SettledKeys
+pub mod SettledNeighbours
+pub mod SettledRules
+pub mod Settled

@@ -2,10 +2,18 @@ ghost use Rattle.std.specs.Prelude.{◌≡◌, ℕ, List, Ok};
 ghost use Rattle.conf_tree.specs.declared.conf.Conf.{Conf};
 ghost use Rattle.conf_tree.specs.Language.{configuration_within};
 ghost use Rattle.conf_round.specs.Readable.{IsReadable};
+ghost use Rattle.conf_round.specs.Settled.{IsSettled};
 
 /// Each value of a configuration that a text says can be written: numbers are within the ranges of their statements,
 /// names and quoted texts have the form and the length that a text can give them, names stand for RIBs and sets that
 /// there are, and no rule has more conditions or items than a text can say.
 pub fn configurations_can_be_written()
     ensures { (limit : ℕ) (text : List ℕ) (conf : Conf) → configuration_within limit text ≡ Ok conf → IsReadable conf }
+{}
+
+/// Every configuration that a text says has passed the checks: its lists and the entries of its sets are in their order
+/// without repeats, no two RIBs have one name or one kernel table and none is named Loc-RIB, each neighbour that has an
+/// own address has one of its own family, and each rule names only groups that have a neighbour and sets that there are.
+pub fn configurations_are_settled()
+    ensures { (limit : ℕ) (text : List ℕ) (conf : Conf) → configuration_within limit text ≡ Ok conf → IsSettled conf }
 {}

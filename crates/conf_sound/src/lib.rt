@@ -3,4 +3,4 @@
 
 mod laws;
 
-pub use laws::configurations_can_be_written;
+pub use laws::{configurations_are_settled, configurations_can_be_written};
