@@ -16,7 +16,7 @@ use Rattle.conf_tree.specs.Flat.{text_cmp, range_cmp, roa_cmp, in_order, with_en
 use Rattle.conf_check.specs.Names.{HasOrderedSets}
 
 -- a key below the first of some in order is below them all
-above_first : {K : Type 0} {R : K → K → Ordering} → IsTotalOrder R → (k e : K) (es : List K) → R k e ≡ Less → AllByRecursion (λ y. R e y ≡ Less) es → AllByRecursion (λ y. R k y ≡ Less) es
+pub above_first : {K : Type 0} {R : K → K → Ordering} → IsTotalOrder R → (k e : K) (es : List K) → R k e ≡ Less → AllByRecursion (λ y. R e y ≡ Less) es → AllByRecursion (λ y. R k y ≡ Less) es
 above_first o k e [] h all = tt
 above_first o k e (x ∷ es) h all = (o.trans k e x h all.0, above_first o k e es h all.1)
 
@@ -43,12 +43,12 @@ module _ {K A : Type 0} (R : K → K → Ordering) where
       by Equal h behind = strict
       by Greater h behind = (below_all e.0 k v es (o.antisymm e.0 k ∙ ap ordering_reverse h) strict.0, behind)
 
-  all_sorted : IsTotalOrder R → (es more : List (K × A)) → IsStrictlySortedBy R (keys_of es) → IsStrictlySortedBy R (keys_of (fold (with_entry R) es more))
+  pub all_sorted : IsTotalOrder R → (es more : List (K × A)) → IsStrictlySortedBy R (keys_of es) → IsStrictlySortedBy R (keys_of (fold (with_entry R) es more))
   all_sorted o es [] strict = strict
   all_sorted o es (e ∷ more) strict = all_sorted o (insert_entry R es e.0 e.1) more (put_sorted o es e.0 e.1 strict)
 
   -- what is made of entries in the order of their keys is in that order
-  made_sorted : {S : Type 0} (key : S → K) (make : K × A → S) → ((e : K × A) → key (make e) ≡ e.0) → (es : List (K × A)) → IsStrictlySortedBy R (keys_of es) → IsStrictlySortedBy (on key R) (map make es)
+  pub made_sorted : {S : Type 0} (key : S → K) (make : K × A → S) → ((e : K × A) → key (make e) ≡ e.0) → (es : List (K × A)) → IsStrictlySortedBy R (keys_of es) → IsStrictlySortedBy (on key R) (map make es)
   unfolding IsStrictlySortedBy
   made_sorted key make keeps [] strict = tt
   made_sorted {S} key make keeps (e ∷ es) strict = (each es strict.0, made_sorted key make keeps es strict.1)

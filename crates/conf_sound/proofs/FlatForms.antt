@@ -178,7 +178,7 @@ named_at name [] k h lt = absurd (omega (arith, lt))
 named_at name (s ∷ sets) zero h lt = h.0
 named_at name (s ∷ sets) (suc k) h lt = named_at name sets k h.1 (omega (arith, lt))
 
-below_length : (n m : ℕ) → nat_lt n m ≡ true → n < m
+pub below_length : (n m : ℕ) → nat_lt n m ≡ true → n < m
 below_length n m e = grind (arith, nat_tests)
 
 place_form : {S : Type 0} (name : S → List ℕ) (sets : List S) (wanted : List ℕ) → Each (λ s. IsName (name s)) sets → IfThere (λ k. IsName (name_at name sets k)) (place_of name sets wanted)

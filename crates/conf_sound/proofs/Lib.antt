@@ -22,3 +22,9 @@ pub mod StatementCounts
 pub mod GroupNames
 pub mod GroupSizes
 pub mod LimitForms
+pub mod SettledLists
+pub mod SettledNames
+pub mod SettledKeys
+pub mod SettledNeighbours
+pub mod SettledRules
+pub mod Settled

@@ -85,7 +85,7 @@ module _ {K A : Type 0} (Is : K → Type 0) (Has : A → Type 0) where
   abbrev pub IsEntry : K × A → Type 0
   IsEntry e = Is e.0 × Has e.1
 
-  insert_entry_form : (cmp : K → K → Ordering) (es : List (K × A)) (k : K) (v : A) → Each IsEntry es → Is k → Has v → Each IsEntry (insert_entry cmp es k v)
+  pub insert_entry_form : (cmp : K → K → Ordering) (es : List (K × A)) (k : K) (v : A) → Each IsEntry es → Is k → Has v → Each IsEntry (insert_entry cmp es k v)
   insert_entry_form cmp [] k v h i j = ((i, j), tt)
   insert_entry_form cmp (e ∷ es) k v h i j = by (cmp k e.0) (insert_entry_form cmp es k v h.1 i j)
     where
@@ -103,7 +103,7 @@ module _ {K A : Type 0} (Is : K → Type 0) (Has : A → Type 0) where
 
 -- ---- what is found
 
-found_none : {A : Type 0} (b : Bool) (x : A) (o : Option A) → cond b (Some x) o ≡ None → (b ≡ false) × (o ≡ None)
+pub found_none : {A : Type 0} (b : Bool) (x : A) (o : Option A) → cond b (Some x) o ≡ None → (b ≡ false) × (o ≡ None)
 found_none true x o e = absurd (cc)
 found_none false x o e = (refl, e)
 

@@ -3,4 +3,6 @@
 
 mod laws;
 
-pub use laws::{configurations_are_within_limits, configurations_can_be_written};
+pub use laws::{
+    configurations_are_settled, configurations_are_within_limits, configurations_can_be_written,
+};
