@@ -2,7 +2,6 @@ ghost use Rattle.std.specs.Prelude.{◌≡◌, ℕ, List, Ok};
 ghost use Rattle.conf_tree.specs.declared.conf.Conf.{Conf};
 ghost use Rattle.conf_tree.specs.Language.{configuration_within};
 ghost use Rattle.conf_round.specs.Readable.{IsReadable, IsWithinLimits};
-ghost use Rattle.conf_round.specs.Readable.{IsReadable};
 ghost use Rattle.conf_round.specs.Settled.{IsSettled};
 
 /// Each value of a configuration that a text says can be written: numbers are within the ranges of their statements,
@@ -16,6 +15,8 @@ pub fn configurations_can_be_written()
 /// beside Loc-RIB, 262,144 entries in all sets together, 4,096 networks, 256 neighbours, 64 groups and 4,096 flat rules.
 pub fn configurations_are_within_limits()
     ensures { (limit : ℕ) (text : List ℕ) (conf : Conf) → configuration_within limit text ≡ Ok conf → IsWithinLimits conf }
+{}
+
 /// Every configuration that a text says has passed the checks: its lists and the entries of its sets are in their order
 /// without repeats, no two RIBs have one name or one kernel table and none is named Loc-RIB, each neighbour that has an
 /// own address has one of its own family, and each rule names only groups that have a neighbour and sets that there are.
