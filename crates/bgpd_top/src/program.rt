@@ -41,11 +41,12 @@ const VERSION: &str = "bgpd 0.1\n";
 
 /// The program `bgpd` over the objects that it is handed; the answer is its status.
 ///
-/// 0: the command is done. 1: the configuration file has a fault, which `FILE:LINE: KIND` tells. 2: the words fit no command, which the usage on `err` tells. 3: a line isn't of the grammar
-/// of events, which `line N: bad event` tells. 4: the source failed or the file couldn't be read, `read fault`. 5: the sink `out` failed,
-/// `write fault`. 7: memory ran out, `no memory`. 8: a line or the file is past its limit, `too long`. A fault of `err`
-/// changes no status. Nothing is used of the nets, the kernel and the clock yet.
-#[tactic(auto, using(crate::proofs::Causes::causes, crate::proofs::Causes::prints, crate::proofs::ServingLemmas::append_none))]
+/// 0: the command is done. 1: the configuration file has a fault, which `FILE:LINE: KIND` tells. 2: the words fit no
+/// command, which the usage on `err` tells. 3: a line isn't of the grammar of events, which `line N: bad event` tells.
+/// 4: the source failed or the file couldn't be read, `read fault`. 5: the sink `out` failed, `write fault`. 7: memory ran
+/// out, `no memory`. 8: a line or the file is past its limit, `too long`. A fault of `err` changes no status. Nothing is
+/// used of the nets, the kernel and the clock yet.
+#[tactic(auto)]
 pub fn bgpd_main<F: Files, I: Source, O: Sink, E: Sink, N: PeerNet, K: Kernel, C: Clock>(
     alloc: Global,
     words: &[String],
@@ -80,16 +81,17 @@ pub fn bgpd_main<F: Files, I: Source, O: Sink, E: Sink, N: PeerNet, K: Kernel, C
     ensures version { command_of (map string_bytes words.now) ≡ Some Command.Version →
         PrintCauses result version_text (O.written out.old) (O.written out.new) (O.faults out.old) (O.faults out.new) }
 {
-    let Some(command) = command_of(words) else {
-        let _ = err.write(USAGE.as_bytes());
-        return 2;
-    };
-    if let Command::Check(verbose) = command {
-        return check_file(alloc, verbose, file_named(words), files, out, err);
-    }
-    match run(alloc, command, input, out) {
-        Ok(()) => 0,
-        Err(fault) => fault_status(err, fault),
+    match command_of(words) {
+        Some(Command::Help) => print_text(out, err, HELP),
+        Some(Command::Version) => print_text(out, err, VERSION),
+        Some(Command::Replay) => replay(alloc, input, out, err),
+        Some(Command::Check(verbose)) => {
+            check_file(alloc, verbose, file_named(words), files, out, err)
+        }
+        None => {
+            let _ = err.write(USAGE.as_bytes());
+            2
+        }
     }
 }
 
@@ -162,26 +164,14 @@ fn word_command(word: &[u8]) -> Option<Command>
     }
 }
 
-/// Does what a command asks for.
-fn run<I: Source, O: Sink>(
-    alloc: Global,
-    command: Command,
-    input: &mut I,
-    out: &mut O,
-) -> Result<(), ServeFault>
-    ensures replay { command ≡ Command.Replay → Ends (option_map events_of_file (I.left input.old)) (O.written out.old) (O.written out.new) result }
-    ensures counts { CountsServing (I.faults input.old) (I.faults input.new) (O.faults out.old) (O.faults out.new) result }
-    ensures help { command ≡ Command.Help → OnOk result (O.written out.new ≡ append_known (O.written out.old) help_text) }
-    ensures fault { command ≢ Command.Replay → IfErr result (λ cause. cause ≡ ServeFault.WriteFault) }
-    ensures still { command ≢ Command.Replay → I.faults input.new ≡ I.faults input.old }
-    ensures version { command ≡ Command.Version → OnOk result (O.written out.new ≡ append_known (O.written out.old) version_text) }
+/// Prints a text; the answer is the status of the program.
+#[tactic(auto, using(crate::proofs::Causes::prints))]
+fn print_text<O: Sink, E: Sink>(out: &mut O, err: &mut E, text: &str) -> u8
+    ensures { PrintCauses result text.now (O.written out.old) (O.written out.new) (O.faults out.old) (O.faults out.new) }
 {
-    match command {
-        Command::Help => write_text(out, HELP),
-        Command::Version => write_text(out, VERSION),
-        Command::Replay => replay(alloc, input, out),
-        // The caller has answered these words already.
-        Command::Check(_) => Ok(()),
+    match write_text(out, text) {
+        Ok(()) => 0,
+        Err(fault) => fault_status(err, fault),
     }
 }
 
@@ -196,8 +186,30 @@ fn write_text<O: Sink>(out: &mut O, text: &str) -> Result<(), ServeFault>
     }
 }
 
-/// Serves the events of a source from its beginning with a Router of its own.
-fn replay<I: Source, O: Sink>(alloc: Global, input: &mut I, out: &mut O) -> Result<(), ServeFault>
+/// Serves the events of a source from its beginning; the answer is the status of the program.
+#[tactic(auto, using(crate::proofs::Causes::causes, crate::proofs::ServingLemmas::append_none))]
+fn replay<I: Source, O: Sink, E: Sink>(
+    alloc: Global,
+    input: &mut I,
+    out: &mut O,
+    err: &mut E,
+) -> u8
+    ensures { ReplayCauses result (option_map events_of_file (I.left input.old)) (O.written out.old) (O.written out.new)
+        (I.faults input.old) (I.faults input.new) (O.faults out.old) (O.faults out.new)
+        (Tells (E.faults err.old) (E.faults err.new) (E.written err.old) (E.written err.new)) }
+{
+    match serve_events(alloc, input, out) {
+        Ok(()) => 0,
+        Err(fault) => fault_status(err, fault),
+    }
+}
+
+/// Serves the events of a source with a Router of its own.
+fn serve_events<I: Source, O: Sink>(
+    alloc: Global,
+    input: &mut I,
+    out: &mut O,
+) -> Result<(), ServeFault>
     ensures transcript { Ends (option_map events_of_file (I.left input.old)) (O.written out.old) (O.written out.new) result }
     ensures counts { CountsServing (I.faults input.old) (I.faults input.new) (O.faults out.old) (O.faults out.new) result }
 {

@@ -19,8 +19,8 @@ use Rattle.conf_tree.specs.declared.sets.PrefixSetConf.{PrefixSetConf}
 use Rattle.conf_tree.specs.Canonical.{is_alone, group_names}
 use Rattle.conf_tree.specs.Said.{said, last_said, last, as_of, router_id_of, hold_of, hold_min_of, fib_update_of, qualify_default_of, med_always_of, socket_of, listen_of, rib_of, prefix_set_of, as_set_of, origin_set_of, roas_of, network_of}
 use Rattle.conf_tree.specs.Flat.{text_cmp, range_cmp, roa_cmp, in_order, by_key, default_socket, prefix_sets_of, as_sets_of, origin_sets_of, roas_said, networks_of, frame_of}
-use Rattle.conf_round.specs.Readable.{Each}
-use Rattle.conf_round.specs.Settled.{IsSettled}
+use Rattle.conf_kept.specs.Readable.{Each}
+use Rattle.conf_kept.specs.Settled.{IsSettled}
 use Rattle.conf_round.proofs.ReadConf.{listen_unit, rib_unit, prefix_set_unit, as_set_unit, origin_set_unit, roa_units, network_unit, neighbour_unit, group_unit, rule_unit, qualify_units, printed_of}
 use Rattle.conf_back.proofs.Framed.{framed, lines_back}
 use Rattle.conf_back.proofs.Told.{Tells, nothing, none_tell, Parts, all_told}

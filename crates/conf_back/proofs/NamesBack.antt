@@ -15,7 +15,7 @@ use Rattle.conf_tree.specs.declared.sets.SetKind.{SetKind}
 use Rattle.conf_tree.specs.declared.sets.SetKind.TheVariants as kinds
 use Rattle.conf_tree.specs.Canonical.{name_at, prefix_set_name, as_set_name, origin_set_name}
 use Rattle.conf_tree.specs.Flat.{text_cmp, below, place_of, set_id, prefix_set_id, as_set_id, origin_set_id}
-use Rattle.conf_round.specs.Settled.{IsSettled, IsKnownSet}
+use Rattle.conf_kept.specs.Settled.{IsSettled, IsKnownSet}
 use Rattle.conf_back.proofs.Framed.{framed}
 use Rattle.conf_back.proofs.InOrder.{keys_sorted}
 

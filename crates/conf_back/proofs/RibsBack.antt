@@ -11,8 +11,8 @@ use Rattle.conf_tree.specs.declared.conf.Rib.{Rib}
 use Rattle.conf_tree.specs.Values.{is_name}
 use Rattle.conf_tree.specs.Canonical.{name_at, rib_name}
 use Rattle.conf_tree.specs.Flat.{loc_rib, below, place_of, rib_number}
-use Rattle.conf_round.specs.Readable.{IsName, IsWithinLimits}
-use Rattle.conf_round.specs.Settled.{IsSettled}
+use Rattle.conf_kept.specs.Readable.{IsName, IsWithinLimits}
+use Rattle.conf_kept.specs.Settled.{IsSettled}
 
 -- ---- names that are the same, and names that differ
 

@@ -11,8 +11,8 @@ use Rattle.conf_tree.specs.declared.rule.Rule.{Rule}
 use Rattle.conf_tree.specs.declared.sets.SetId.{SetId}
 use Rattle.conf_tree.specs.Canonical.{rib_name}
 use Rattle.conf_tree.specs.Flat.{rib_number, ways, followed_by, chosen, choices, flat_conditions, rule_with, flat_rules, rules_of}
-use Rattle.conf_round.specs.Readable.{Each, IsRuleRib, IsRule, IsWithinLimits}
-use Rattle.conf_round.specs.Settled.{IsSettled, IsKnownCondition, IsKnownRule}
+use Rattle.conf_kept.specs.Readable.{Each, IsRuleRib, IsRule, IsWithinLimits}
+use Rattle.conf_kept.specs.Settled.{IsSettled, IsKnownCondition, IsKnownRule}
 use Rattle.conf_round.proofs.ReadRules.{written}
 use Rattle.conf_round.proofs.ReadRuleLines.{rule_block}
 use Rattle.conf_back.proofs.Framed.{framed, lines_back}

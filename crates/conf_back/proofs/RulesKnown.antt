@@ -19,8 +19,8 @@ use Rattle.conf_tree.specs.declared.sets.SetId.{SetId}
 use Rattle.conf_tree.specs.Said.{said, rule_of}
 use Rattle.conf_tree.specs.Canonical.{is_of_group, rib_name}
 use Rattle.conf_tree.specs.Checks.{is_unknown_rib, groups_of, is_unknown_peer, is_unknown_set, has_unknown, is_unknown_rule, unknown_rule}
-use Rattle.conf_round.specs.Readable.{Each, IsRuleRib, IsRule, IsWithinLimits}
-use Rattle.conf_round.specs.Settled.{IsSettled, IsKnownPeer, IsKnownCondition, IsKnownRule}
+use Rattle.conf_kept.specs.Readable.{Each, IsRuleRib, IsRule, IsWithinLimits}
+use Rattle.conf_kept.specs.Settled.{IsSettled, IsKnownPeer, IsKnownCondition, IsKnownRule}
 use Rattle.conf_round.proofs.ReadRules.{written}
 use Rattle.conf_round.proofs.ReadRuleLines.{rule_block}
 use Rattle.conf_back.proofs.Framed.{framed, lines_back}

@@ -11,8 +11,8 @@ use Rattle.conf_tree.specs.Flat.{placed, frame_of, neighbours_of, rules_of, flat
 use Rattle.conf_tree.specs.Checks.{fault_at, first_line, missing_global, double_name, double_of, group_name_of, unknown_neighbour, unknown_rule, unknown_name, groups_of, first_fault, checked}
 use Rattle.conf_tree.specs.Canonical.{canonical}
 use Rattle.conf_tree.specs.Language.{configuration_within}
-use Rattle.conf_round.specs.Readable.{IsReadable, IsWithinLimits}
-use Rattle.conf_round.specs.Settled.{IsSettled}
+use Rattle.conf_kept.specs.Readable.{IsReadable, IsWithinLimits}
+use Rattle.conf_kept.specs.Settled.{IsSettled}
 use Rattle.conf_round.proofs.ReadConf.{canonical_draft, canonical_draft_back}
 use Rattle.conf_back.proofs.Framed.{framed, lines_back}
 use Rattle.conf_back.proofs.Selected.{as_said, router_id_said}

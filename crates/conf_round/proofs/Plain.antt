@@ -5,6 +5,7 @@ use Rattle.std.specs.List.{All, list_all}
 use Rattle.std.proofs.lemmas.Bool.Decides.{nat_tests}
 use Rattle.conf_tree.specs.Joined.{is_lf}
 use Rattle.conf_tree.specs.Cuts.{is_blank, is_hash, is_quote, is_mark, is_compare, is_printable}
+use Rattle.conf_kept.proofs.Both.{and_first, and_second}
 
 -- printable, and neither a mark, nor a quote, a comment sign, a backslash or a dollar
 pub record IsPlain (b : ℕ) : Type 0 where
@@ -57,14 +58,6 @@ is_in_ranges b = (nat_le 45 b && nat_le b 58) || ((nat_le 65 b && nat_le b 90) |
 
 in_ranges : (b : ℕ) → is_in_ranges b ≡ true → IsInRanges b
 in_ranges b h = grind (arith, nat_tests)
-
-pub and_first : (a b : Bool) → (a && b) ≡ true → a ≡ true
-and_first true b e = refl
-and_first false b e = e
-
-pub and_second : (a b : Bool) → (a && b) ≡ true → b ≡ true
-and_second true b e = e
-and_second false b e = absurd (cc)
 
 pub tested_plain : (text : List ℕ) → list_all is_in_ranges text ≡ true → ArePlain text
 tested_plain [] e = tt

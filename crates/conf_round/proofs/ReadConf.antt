@@ -21,7 +21,8 @@ use Rattle.conf_tree.specs.RuleReading.{factor, factors, flat_rules_of}
 use Rattle.conf_tree.specs.StatementReading.{Room, all_room, room_behind, draft_of}
 use Rattle.conf_tree.specs.Language.{draft_within}
 use Rattle.conf_tree.specs.Canonical.{is_alone, is_of_group, group_names, canonical}
-use Rattle.conf_round.specs.Readable.{Each, IsGroupName, IsListen, IsRib, IsPrefixSet, IsAsSet, IsOriginSet, IsRoa, IsNetwork, IsNeighbour, IsRule, IsReadable, members_of, total, entries_of, IsWithinLimits, IsRead}
+use Rattle.conf_kept.specs.Readable.{Each, IsGroupName, IsListen, IsRib, IsPrefixSet, IsAsSet, IsOriginSet, IsRoa, IsNetwork, IsNeighbour, IsRule, IsReadable, members_of, total, entries_of, IsWithinLimits}
+use Rattle.conf_round.specs.Read.{IsRead}
 use Rattle.conf_round.proofs.Pieces.{Piece, line_finish}
 use Rattle.conf_round.proofs.SetLines.{as_pieces, router_id_pieces, hold_pieces, hold_min_pieces, fib_update_pieces, qualify_pieces, med_pieces, socket_pieces, listen_pieces, rib_pieces, head_pieces, range_pieces, number_pieces, roa_pieces, set_lines, prefix_set_lines, as_set_lines, origin_set_lines, roa_set_lines, network_pieces}
 use Rattle.conf_round.proofs.RuleLines.{option_lines, neighbour_lines, group_lines, rule_pieces, canonical_lines}

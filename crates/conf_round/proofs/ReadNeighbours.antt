@@ -21,7 +21,7 @@ use Rattle.conf_tree.specs.Reading.{is_word, is_line_end, line_of, text_of, word
 use Rattle.conf_tree.specs.Values.{prefix_of_word}
 use Rattle.conf_tree.specs.NeighbourReading.{after_line_ends, separated_at, option_line_at, options_at, neighbour_body_at, neighbour_at, neighbour_line_at, group_members_at, group_at}
 use Rattle.conf_tree.specs.StatementReading.{Room, neighbour_statement_at, group_statement_at, peer_word_at, set_word_at, engine_word_at, statement_at}
-use Rattle.conf_round.specs.Readable.{Each, IsGroupName, IsNeighbour}
+use Rattle.conf_kept.specs.Readable.{Each, IsGroupName, IsNeighbour}
 use Rattle.conf_round.proofs.Pieces.{Piece, line_tokens, start, finish, line_finish, end_token}
 use Rattle.conf_round.proofs.Texts.{lines_tokens}
 use Rattle.conf_round.proofs.Lines.{first, word, quote, opening, shut}

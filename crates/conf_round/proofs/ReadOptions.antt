@@ -13,7 +13,7 @@ use Rattle.conf_tree.specs.declared.rule.Item.{Item}
 use Rattle.conf_tree.specs.Reading.{text_of, word_is, ends_line}
 use Rattle.conf_tree.specs.NeighbourReading.{remote_as_at, local_address_at, description_at, port_at, multihop_at, hold_min_option_at, hold_option_at, any_hold_option_at, family_at, announce_refresh_at, announce_as_4byte_at, capability_at, announce_at, max_prefix_at, rib_option_at, set_option_at, routing_option_at, session_option_at, connection_option_at, option_at}
 use Rattle.conf_tree.specs.Canonical.{rib_name, unicast, yes_no}
-use Rattle.conf_round.specs.Readable.{IfThere, IsSet, IsAs, IsHold, IsWithin, IsQuotedText, IsName, IsNeighbour}
+use Rattle.conf_kept.specs.Readable.{IfThere, IsSet, IsAs, IsHold, IsWithin, IsQuotedText, IsName, IsNeighbour}
 use Rattle.conf_round.proofs.Pieces.{Piece, line_tokens}
 use Rattle.conf_round.proofs.Lines.{tabbed, word}
 use Rattle.conf_round.proofs.ItemLines.{set_pieces}

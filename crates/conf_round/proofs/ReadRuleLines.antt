@@ -21,7 +21,7 @@ use Rattle.conf_tree.specs.Reading.{text_of, word_is, ends_line, keyword_at, unl
 use Rattle.conf_tree.specs.RuleReading.{Lists, peer_at, most_conditions, ends_conditions, conditions_at, place_of, rule_body_at, rib_rule_at, directed_rule_at, rule_at}
 use Rattle.conf_tree.specs.StatementReading.{Room, rule_statement_at, rule_word_at, peer_word_at, set_word_at, engine_word_at, statement_at}
 use Rattle.conf_tree.specs.Canonical.{rib_name, action_word, direction_word}
-use Rattle.conf_round.specs.Readable.{Each, IsPeer, IsCondition, IsRuleRib, IsRule}
+use Rattle.conf_kept.specs.Readable.{Each, IsPeer, IsCondition, IsRuleRib, IsRule}
 use Rattle.conf_round.proofs.Pieces.{Piece, line_tokens, line_finish}
 use Rattle.conf_round.proofs.Lines.{first, word}
 use Rattle.conf_round.proofs.ItemLines.{behind_pieces}

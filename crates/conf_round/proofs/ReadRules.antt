@@ -25,7 +25,7 @@ use Rattle.conf_tree.specs.Reading.{text_of, word_is, word_in, mark_is, unless_f
 use Rattle.conf_tree.specs.Values.{address_of}
 use Rattle.conf_tree.specs.RuleReading.{Lists, group_peer_at, as_peer_at, address_peer_at, one_peer_at, known_peer_at, begins_peer, peer_at, ranged_at, rule_prefix_at, one_prefix_at, prefix_condition_at, prefix_set_condition_at, as_set_condition_at, one_number_at, path_condition_at, origin_set_condition_at, ovs_condition_at, community_condition_at, large_condition_at, max_as_len_condition_at, next_hop_condition_at, route_condition_at, plain_condition_at, other_condition_at, path_word_at, known_condition_at, condition_at}
 use Rattle.conf_tree.specs.Canonical.{prefix_set_name, as_set_name, origin_set_name, pattern_text, large_pattern_text, path_word}
-use Rattle.conf_round.specs.Readable.{IsWithin, IsAs, IsName, IsRange, IsGroupName, IsPattern, IsLargePattern, IsPeer, least_as, IsCondition}
+use Rattle.conf_kept.specs.Readable.{IsWithin, IsAs, IsName, IsRange, IsGroupName, IsPattern, IsLargePattern, IsPeer, least_as, IsCondition}
 use Rattle.conf_round.proofs.Pieces.{line_tokens}
 use Rattle.conf_round.proofs.Words.{addr_read_back}
 use Rattle.conf_round.proofs.Lines.{word}

@@ -1,7 +1,8 @@
 ghost use Rattle.std.specs.Prelude.{ℕ, ◌≤◌, length};
 ghost use Rattle.conf_tree.specs.declared.conf.Conf.{Conf};
 ghost use Rattle.conf_tree.specs.Canonical.{canonical};
-ghost use Rattle.conf_round.specs.Readable.{IsReadable, IsWithinLimits, IsRead};
+ghost use Rattle.conf_kept.specs.Readable.{IsReadable, IsWithinLimits};
+ghost use Rattle.conf_round.specs.Read.{IsRead};
 
 /// The canonical text of a configuration is read without a fault of its tokens or statements, where each of its values can
 /// be written, it has no more of anything than the language takes, and its text is within the limit.

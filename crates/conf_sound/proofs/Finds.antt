@@ -4,7 +4,7 @@ use Rattle.std.specs.Str.{IsUtf8}
 use Rattle.net_base.specs.declared.conf.ConfFault.{ConfFault}
 use Rattle.conf_tree.specs.declared.token.Token.{Token}
 use Rattle.conf_tree.specs.Reading.{◌>>=◌, Reading, behind, is_quoted}
-use Rattle.conf_round.specs.Readable.{Each, IfThere, can_be_quoted}
+use Rattle.conf_kept.specs.Readable.{Each, IfThere, can_be_quoted}
 
 -- the text between quotes holds no quote and no line end, and is UTF-8
 pub record IsGood (token : Token) : Type 0 where

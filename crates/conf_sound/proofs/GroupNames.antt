@@ -13,7 +13,7 @@ use Rattle.std.proofs.lemmas.Slice.Eq.{bytes_eq-Decides}
 use Rattle.conf_tree.specs.declared.neighbour.Neighbour.{Neighbour}
 use Rattle.conf_tree.specs.Flat.{text_cmp}
 use Rattle.conf_tree.specs.Canonical.{with_name, group_names}
-use Rattle.conf_round.specs.Readable.{total}
+use Rattle.conf_kept.specs.Readable.{total}
 use Rattle.conf_sound.proofs.Totals.{one}
 
 -- a key below the first of some in order is below them all

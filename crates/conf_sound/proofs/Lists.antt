@@ -9,7 +9,7 @@ use Rattle.std.specs.declared.cmp.Ordering.TheVariants.{Less, Equal, Greater}
 use Rattle.std.specs.BTreeMap.{insert_entry}
 use Rattle.std.specs.BTreeSet.{insert_key}
 use Rattle.conf_tree.specs.Flat.{in_order, with_entry, by_key, followed_by, chosen, choices}
-use Rattle.conf_round.specs.Readable.{Each, IfThere}
+use Rattle.conf_kept.specs.Readable.{Each, IfThere}
 
 module _ {A : Type 0} (Is : A → Type 0) where
   pub each_append : (xs ys : List A) → Each Is xs → Each Is ys → Each Is (xs ++ ys)

@@ -11,7 +11,7 @@ use Rattle.conf_tree.specs.Flat.{placed, frame_of, flat}
 use Rattle.conf_tree.specs.Checks.{missing_global, double_name, double_neighbour, without_as, unknown_name, family_mismatch, first_fault, checked}
 use Rattle.conf_tree.specs.Language.{draft_within, configuration_within}
 use Rattle.conf_check.proofs.Sorted.{frame_sorted}
-use Rattle.conf_round.specs.Settled.{IsSettled}
+use Rattle.conf_kept.specs.Settled.{IsSettled}
 use Rattle.conf_sound.proofs.Lists.{or_none}
 use Rattle.conf_sound.proofs.StatementForms.{Gives}
 use Rattle.conf_sound.proofs.SettledLists.{prefix_entries_sorted, as_entries_sorted, origin_entries_sorted, roas_sorted, networks_sorted}

@@ -13,7 +13,7 @@ use Rattle.conf_tree.specs.Cuts.{is_cut, bad_place, Cut, Line, first_line, split
 use Rattle.conf_tree.specs.Macros.{◌>>=◌, Macros, no_macros, with_macro, followed, Expanded, most_replaced, text_size, moved, given, given_for, asked, is_word, is_quoted, unchanged, replaced, expanded, quoted_value, value_of, begins_definition, defined}
 use Rattle.conf_tree.specs.Reading as reading
 use Rattle.conf_tree.specs.Tokens.{LineRead, line_with, line_read, lines_in, tokens}
-use Rattle.conf_round.specs.Readable.{IfThere}
+use Rattle.conf_kept.specs.Readable.{IfThere}
 use Rattle.conf_sound.proofs.Finds.{IsGood, AreGood}
 use Rattle.conf_sound.proofs.Lists.{each_append, each_map}
 use Rattle.conf_sound.proofs.ReadingForms.{good_drop}

@@ -16,7 +16,7 @@ use Rattle.conf_tree.specs.Said.{last_said, as_of, router_id_of, remote_as_of}
 use Rattle.conf_tree.specs.Flat.{Placed, placed, taken, frame_of, flat, neighbours_of, rules_of}
 use Rattle.conf_tree.specs.Checks.{fault_at, missing_global, double_name, double_neighbour, without_as, unknown_name, family_mismatch, first_fault, checked}
 use Rattle.conf_tree.specs.Canonical.{prefix_set_name, as_set_name, origin_set_name, rib_name}
-use Rattle.conf_round.specs.Readable.{Each, IsName, IsAs, IsNeighbour, IsCondition, IsRuleRib, IsRule, IsReadable}
+use Rattle.conf_kept.specs.Readable.{Each, IsName, IsAs, IsNeighbour, IsCondition, IsRuleRib, IsRule, IsReadable}
 use Rattle.conf_sound.specs.InForm.{AreStatements}
 use Rattle.conf_sound.proofs.Lists.{unwrap_some, each_both, find_none, or_none, map_none}
 use Rattle.conf_sound.proofs.StatementForms.{Gives, IsDraft}

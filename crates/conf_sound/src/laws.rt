@@ -1,8 +1,8 @@
 ghost use Rattle.std.specs.Prelude.{◌≡◌, ℕ, List, Ok};
 ghost use Rattle.conf_tree.specs.declared.conf.Conf.{Conf};
 ghost use Rattle.conf_tree.specs.Language.{configuration_within};
-ghost use Rattle.conf_round.specs.Readable.{IsReadable, IsWithinLimits};
-ghost use Rattle.conf_round.specs.Settled.{IsSettled};
+ghost use Rattle.conf_kept.specs.Readable.{IsReadable, IsWithinLimits};
+ghost use Rattle.conf_kept.specs.Settled.{IsSettled};
 
 /// Each value of a configuration that a text says can be written: numbers are within the ranges of their statements,
 /// names and quoted texts have the form and the length that a text can give them, names stand for RIBs and sets that

@@ -1,5 +1,5 @@
 -- What every configuration keeps that a text of the language says: each value is one that can be written.
-use Rattle.std.specs.Prelude.{◌≡◌, ℕ, ◌≤◌, ◌⊎◌, Bool, true, not, ◌||◌, ◌==◌, List, [], ◌∷◌, ◌+◌, length, filter, Option, None, Some, Ok}
+use Rattle.std.specs.Prelude.{◌≡◌, ℕ, ◌≤◌, ◌⊎◌, Bool, true, not, ◌||◌, ◌==◌, List, [], ◌∷◌, ◌+◌, length, filter, Option, None, Some}
 use Rattle.std.specs.List.{list_all}
 use Rattle.std.specs.Str.{IsUtf8}
 use Rattle.net_base.specs.declared.prefix.Prefix.{Prefix}
@@ -33,8 +33,6 @@ use Rattle.conf_tree.specs.declared.sets.PrefixRange.{PrefixRange}
 use Rattle.conf_tree.specs.declared.sets.PrefixSetConf.{PrefixSetConf}
 use Rattle.conf_tree.specs.declared.sets.AsSetConf.{AsSetConf}
 use Rattle.conf_tree.specs.declared.sets.OriginSetConf.{OriginSetConf}
-use Rattle.conf_tree.specs.declared.draft.Draft.{Draft}
-use Rattle.conf_tree.specs.Language.{draft_within}
 use Rattle.conf_tree.specs.Values.{is_name, is_quoted_group_name, most_name_bytes, most_quoted_bytes}
 use Rattle.conf_tree.specs.ItemReading.{is_to, is_network, most_items}
 use Rattle.conf_tree.specs.RuleReading.{most_conditions, place_of}
@@ -251,10 +249,3 @@ pub record IsWithinLimits (conf : Conf) : Type 0 where
   pub neighbours : length (filter is_alone conf.neighbours) + total (λ name. length (members_of conf name)) (group_names conf.neighbours) ≤ 256
   pub groups : length (group_names conf.neighbours) ≤ 64
   pub rules : length conf.rules ≤ 4096
-
--- ---- what is read
-
--- a text of at most so many bytes is read without a fault of its tokens or its statements
-pub record IsRead (limit : ℕ) (text : List ℕ) : Type 0 where
-  pub draft : Draft
-  pub says : draft_within limit text ≡ Ok draft

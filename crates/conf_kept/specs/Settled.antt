@@ -18,7 +18,7 @@ use Rattle.conf_tree.specs.declared.sets.SetKind.TheVariants as kinds
 use Rattle.conf_tree.specs.Canonical.{is_of_group}
 use Rattle.conf_tree.specs.Flat.{loc_rib, text_cmp, range_cmp, roa_cmp}
 use Rattle.conf_tree.specs.Membership.{Names}
-use Rattle.conf_round.specs.Readable.{Each, IfThere}
+use Rattle.conf_kept.specs.Readable.{Each, IfThere}
 
 -- the own address of the session is of the family of the neighbour's
 abbrev pub HasOneFamily : Neighbour → Type 0
