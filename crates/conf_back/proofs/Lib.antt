@@ -1,3 +1,4 @@
 pub mod Framed
 pub mod RibsBack
 pub mod Merged
+pub mod GroupNames
