@@ -20,6 +20,14 @@ all_filter P p (x ∷ xs) all = by (p x) (all_filter P p xs all.1)
     by true behind = (all.0, behind)
     by false behind = behind
 
+pub passing : {A : Type 0} (p : A → Bool) (xs : List A) → AllByRecursion (λ x. p x ≡ true) (filter p xs)
+passing p [] = tt
+passing p (x ∷ xs) = by (p x) refl (passing p xs)
+  where
+    by : (b : Bool) → p x ≡ b → AllByRecursion (λ x. p x ≡ true) (filter p xs) → AllByRecursion (λ x. p x ≡ true) (cond b (x ∷ filter p xs) (filter p xs))
+    by true is behind = (is, behind)
+    by false is behind = behind
+
 -- where all pass the test, none is left out
 pub all_kept : {A : Type 0} (p : A → Bool) (xs : List A) → AllByRecursion (λ x. p x ≡ true) xs → filter p xs ≡ xs
 all_kept p [] all = refl
