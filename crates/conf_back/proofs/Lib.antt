@@ -6,3 +6,6 @@ pub mod OptionsBack
 pub mod PlacedBack
 pub mod PeerLines
 pub mod NeighbourBack
+pub mod Differing
+pub mod NeighboursBack
+pub mod AddressesDiffer

@@ -33,11 +33,11 @@ pub all_kept : {A : Type 0} (p : A → Bool) (xs : List A) → AllByRecursion (�
 all_kept p [] all = refl
 all_kept p (x ∷ xs) all = rw all.0 (ap (λ (ys : List _). x ∷ ys) (all_kept p xs all.1))
 
-or_false : (a : Bool) → (a || false) ≡ a
+pub or_false : (a : Bool) → (a || false) ≡ a
 or_false true = refl
 or_false false = refl
 
-or_assoc : (a b c : Bool) → ((a || b) || c) ≡ (a || (b || c))
+pub or_assoc : (a b c : Bool) → ((a || b) || c) ≡ (a || (b || c))
 or_assoc true b c = refl
 or_assoc false b c = refl
 
