@@ -65,7 +65,7 @@ rearranged ns =
 pub addresses_differ : (conf : Conf) → IsSettled conf → IsDistinct same_addr (map (λ n. n.address) (written conf))
 addresses_differ conf s =
     let sorted : IsDistinct same_place conf.neighbours =
-        subst (λ (same : Addr → Addr → Bool). IsDistinct (λ n m. same n.address m.address) conf.neighbours) addresses_same
-        (IsDistinct-from_sorted (on (λ n. n.address) addr_cmp) conf.neighbours s.neighbours) in
+    subst (λ (same : Addr → Addr → Bool). IsDistinct (λ n m. same n.address m.address) conf.neighbours) addresses_same
+    (IsDistinct-from_sorted (on (λ n. n.address) addr_cmp) conf.neighbours s.neighbours) in
     keys_apart same_addr (λ n. n.address) (written conf)
     (IsDistinct-IsPermutation same_place (λ n m. flips n.address m.address) conf.neighbours (written conf) (rearranged conf.neighbours) sorted)

@@ -36,6 +36,7 @@ module _ (test : List ℕ → Bool) where
       either : (b : Bool) → (b || list_any test names) ≡ true → (list_any test names ≡ true → list_any test (insert_key text_cmp names name) ≡ true) → (b || list_any test (insert_key text_cmp names name)) ≡ true
       either true found behind = refl
       either false found behind = behind found
+
       by : (r : Ordering) → (test x || list_any test (insert_key text_cmp names name)) ≡ true
           → list_any test (match_ordering r (name ∷ x ∷ names) (x ∷ names) (x ∷ insert_key text_cmp names name)) ≡ true
       by Less later = rw found (or_true (test name))
@@ -139,7 +140,7 @@ module _ {K : Type 0} (R : K → K → Ordering) (o : IsTotalOrder R) where
   above_first k x [] h all = tt
   above_first k x (y ∷ ks) h all = (o.trans k x y h all.0, above_first k x ks h all.1)
 
-  pub put_sorted : (ks : List K) (k : K) → IsStrictlySortedBy R ks → IsStrictlySortedBy R (insert_key R ks k)
+  put_sorted : (ks : List K) (k : K) → IsStrictlySortedBy R ks → IsStrictlySortedBy R (insert_key R ks k)
   unfolding IsStrictlySortedBy
   put_sorted [] k strict = (tt, tt)
   put_sorted (x ∷ ks) k strict = by (R k x) refl (put_sorted ks k strict.1)

@@ -9,3 +9,4 @@ pub mod NeighbourBack
 pub mod Differing
 pub mod NeighboursBack
 pub mod AddressesDiffer
+pub mod GroupsBack

@@ -27,10 +27,12 @@ use Rattle.conf_back.proofs.PeerLines.{is_no_peer, Passes, HoldsOf, only_rules, 
 abbrev pub written : Conf → List Neighbour
 written conf = filter is_alone conf.neighbours ++ flat_map (members_of conf) (group_names conf.neighbours)
 
+-- this neighbour of the text is that one, printed from some line on
 pub record IsPlacedAs (conf : Conf) (p : Placed) (n : Neighbour) : Type 0 where
   pub line : ℕ
   pub is : p ≡ placed_as conf line n
 
+-- and so each of one list in turn
 abbrev pub ArePlacedAs : Conf → List Placed → List Neighbour → Type 0
 ArePlacedAs conf [] [] = Unit {0}
 ArePlacedAs conf [] (n ∷ ns) = ⊥

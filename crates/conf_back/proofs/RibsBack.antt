@@ -4,8 +4,8 @@ use Rattle.std.specs.Prelude.{bytes_eq, slice_get, option_and_then}
 use Rattle.std.specs.List.{IsDistinct, AllByRecursion, position_or_len}
 use Rattle.std.proofs.lemmas.Bool.{lt-ltb}
 use Rattle.std.proofs.lemmas.Bool.Decides.{nat_tests}
+use Rattle.std.proofs.lemmas.Cmp.{nat_list_eq_equiv}
 use Rattle.std.proofs.lemmas.Option.{slice_get_within}
-use Rattle.std.proofs.lemmas.Slice.Eq.{bytes_eq-Decides}
 use Rattle.conf_tree.specs.declared.conf.Conf.{Conf}
 use Rattle.conf_tree.specs.declared.conf.Rib.{Rib}
 use Rattle.conf_tree.specs.Values.{is_name}
@@ -17,20 +17,16 @@ use Rattle.conf_round.specs.Settled.{IsSettled}
 -- ---- names that are the same, and names that differ
 
 pub same_name : (a : List ℕ) → bytes_eq a a ≡ true
-same_name a = (bytes_eq-Decides a a).1 refl
+same_name a = nat_list_eq_equiv.refl a
 
-pub unlike_back : (a b : List ℕ) → bytes_eq a b ≡ false → bytes_eq b a ≡ false
-unlike_back a b differs = by (bytes_eq b a) refl
-  where
-    by : (t : Bool) → bytes_eq b a ≡ t → t ≡ false
-    by true is = absurd (true≢false (sym ((bytes_eq-Decides a b).1 (sym ((bytes_eq-Decides b a).0 is))) ∙ differs))
-    by false is = refl
+unlike_back : (a b : List ℕ) → bytes_eq a b ≡ false → bytes_eq b a ≡ false
+unlike_back a b differs = nat_list_eq_equiv.symm b a ∙ differs
 
 -- ---- places
 
 module _ {A : Type 0} (name_of : A → List ℕ) where
   -- what holds of all names of a list holds of the name at a place
-  pub all_at : (P : List ℕ → Type 0) (xs : List A) (k : ℕ) (x : A) → AllByRecursion P (map name_of xs) → slice_get xs k ≡ Some x → P (name_of x)
+  all_at : (P : List ℕ → Type 0) (xs : List A) (k : ℕ) (x : A) → AllByRecursion P (map name_of xs) → slice_get xs k ≡ Some x → P (name_of x)
   all_at P [] k x all at = absurd (cc)
   all_at P (y ∷ xs) zero x all at = let same : y ≡ x = cc in subst (λ z. P (name_of z)) same all.0
   all_at P (y ∷ xs) (suc k) x all at = all_at P xs k x all.1 at
@@ -49,9 +45,9 @@ module _ {A : Type 0} (name_of : A → List ℕ) where
       ∙ ap (λ (b : Bool). cond b (Some k) None) (lt-ltb k (length xs) (slice_get_within xs k x at))
 
   -- a name that isn't empty stands at its place
-  pub there : (xs : List A) (k : ℕ) → is_name (name_at name_of xs k) ≡ true → (x : A) × (slice_get xs k ≡ Some x) × (name_at name_of xs k ≡ name_of x)
+  named_there : (xs : List A) (k : ℕ) → is_name (name_at name_of xs k) ≡ true → (x : A) × (slice_get xs k ≡ Some x) × (name_at name_of xs k ≡ name_of x)
   unfolding is_name
-  there xs k named = by (slice_get xs k) refl
+  named_there xs k named = by (slice_get xs k) refl
     where
       by : (o : Option A) → slice_get xs k ≡ o → (x : A) × (slice_get xs k ≡ Some x) × (name_at name_of xs k ≡ name_of x)
       by None is = absurd (true≢false (sym named ∙ rw is refl))
@@ -72,7 +68,6 @@ small k h = by (nat_lt (k + 1) 256) refl
     by true is = let same : k + 1 ≡ suc k = omega arith in ap Some same
     by false is = absurd (true≢false (sym (lt-ltb (k + 1) 256 (omega arith)) ∙ is))
 
-
 other_name : (conf : Conf) (k : ℕ) → rib_name conf (suc k) ≡ name_at (λ r. r.name) conf.ribs k
 unfolding rib_name
 other_name conf k = rw (not_zero k) (rw (less_one k) refl)
@@ -92,5 +87,5 @@ pub rib_number_back : (conf : Conf) (number : ℕ) → IsWithinLimits conf → I
 rib_number_back conf zero fits s h = first_number conf
 rib_number_back conf (suc k) fits s h =
     let named = other_name conf k in
-    let found = there (λ r. r.name) conf.ribs k (sym (ap is_name named) ∙ h.form) in
+    let found = named_there (λ r. r.name) conf.ribs k (sym (ap is_name named) ∙ h.form) in
     ap (rib_number conf.ribs) (named ∙ found.2) ∙ other_number conf.ribs k found.0 fits.ribs s.ribs found.1
