@@ -6,6 +6,16 @@ pub mod FrameBack
 pub mod NamesBack
 pub mod RibsBack
 pub mod RulesBack
+pub mod Differing
 pub mod NoDoubles
 pub mod RulesKnown
+pub mod Merged
+pub mod GroupNames
+pub mod OptionsBack
+pub mod PlacedBack
+pub mod PeerLines
+pub mod NeighbourBack
+pub mod NeighboursBack
+pub mod AddressesDiffer
+pub mod GroupsBack
 pub mod Whole

@@ -26,8 +26,8 @@ distinct_names name sets s =
 
 -- ---- places
 
-same_name : (name : List ℕ) → bytes_eq name name ≡ true
-same_name name = (nat_list_eq_equiv).refl name
+pub same_name : (name : List ℕ) → bytes_eq name name ≡ true
+same_name name = nat_list_eq_equiv.refl name
 
 module _ {S : Type 0} (name : S → List ℕ) where
   -- the place at which a name is found

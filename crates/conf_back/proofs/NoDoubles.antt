@@ -17,8 +17,9 @@ use Rattle.conf_kept.specs.Settled.{IsSettled}
 use Rattle.conf_back.proofs.Framed.{lines_back}
 use Rattle.conf_back.proofs.Selected.{ribs_said, rib_names_said, prefix_set_names_said, as_set_names_said, origin_set_names_said}
 use Rattle.conf_back.proofs.NamesBack.{distinct_names}
+use Rattle.conf_back.proofs.Differing.{no_double}
 
--- ---- names that are distinct
+-- ---- names with their lines
 
 module _ {K : Type 0} where
   abbrev pub names_in : List (ℕ × K) → List K
@@ -32,39 +33,10 @@ module _ {K : Type 0} where
       by None h = h
       by (Some name) h = ap (λ (names : List K). name ∷ names) h
 
-  module _ (same : K → K → Bool) (laws : IsEquivalence same) where
-    -- none of the earlier names is the same as one of the later ones
-    abbrev AreApart : List (ℕ × K) → List (ℕ × K) → Type 0
-    AreApart earlier [] = Unit {0}
-    AreApart earlier (n ∷ later) = (list_any (λ e. same n.1 e.1) earlier ≡ false) × AreApart earlier later
-
-    neither : (a b : Bool) → a ≡ false → b ≡ false → (a || (b || false)) ≡ false
-    neither a b h k = rw (h, k) refl
-
-    one_more : (n e : ℕ × K) (earlier : List (ℕ × K)) → list_any (λ x. same n.1 x.1) earlier ≡ false → same e.1 n.1 ≡ false → list_any (λ x. same n.1 x.1) (earlier ++ e ∷ []) ≡ false
-    one_more n e earlier h k = list_any-append (λ x. same n.1 x.1) earlier (e ∷ []) ∙ neither _ _ h (laws.symm n.1 e.1 ∙ k)
-
-    all_apart : (earlier : List (ℕ × K)) (e : ℕ × K) (later : List (ℕ × K)) → AreApart earlier later → AllByRecursion (λ y. same e.1 y ≡ false) (names_in later) → AreApart (earlier ++ e ∷ []) later
-    all_apart earlier e [] a all = tt
-    all_apart earlier e (n ∷ later) a all = (one_more n e earlier a.0 all.0, all_apart earlier e later a.1 all.1)
-
-    none_after : (earlier later : List (ℕ × K)) → AreApart earlier later → IsDistinct same (names_in later) → double_after same earlier later ≡ None
-    unfolding IsDistinct
-    none_after earlier [] a d = refl
-    none_after earlier (n ∷ later) a d = rw a.0 (none_after (earlier ++ n ∷ []) later (all_apart earlier n later a.1 d.0) d.1)
-
-    first_apart : (names : List (ℕ × K)) → AreApart [] names
-    first_apart [] = tt
-    first_apart (n ∷ names) = (refl, first_apart names)
-
-    pub no_double : (names : List (ℕ × K)) → IsDistinct same (names_in names) → first_double same names ≡ None
-    unfolding first_double
-    no_double names d = none_after [] names (first_apart names) d
-
 -- ---- the names of a canonical text
 
 pub no_double_of : (name_of : Statement → Option (List ℕ)) (lines : List StatementLine) (names : List (List ℕ)) → said name_of lines ≡ names → IsDistinct bytes_eq names → double_of name_of lines ≡ None
-no_double_of name_of lines names e d = no_double bytes_eq nat_list_eq_equiv (named name_of lines) (subst (IsDistinct bytes_eq) (sym (names_said name_of lines ∙ e)) d)
+no_double_of name_of lines names e d = no_double bytes_eq nat_list_eq_equiv.symm (named name_of lines) (subst (IsDistinct bytes_eq) (sym (names_said name_of lines ∙ e)) d)
 
 table_said : (s : Statement) → rib_table_of s ≡ option_and_then (λ r. r.table) (rib_of s)
 table_said (says.Rib name table) = refl
@@ -81,12 +53,12 @@ tables_said (l ∷ lines) = ap (λ (o : Option ℕ). cons_option o (said rib_tab
 module _ (conf : Conf) (s : IsSettled conf) where
   pub no_double_rib : double_rib (lines_back conf) ≡ None
   no_double_rib =
-      no_double bytes_eq nat_list_eq_equiv ((0, loc_rib) ∷ named rib_name_of (lines_back conf))
+      no_double bytes_eq nat_list_eq_equiv.symm ((0, loc_rib) ∷ named rib_name_of (lines_back conf))
       (subst (λ (names : List (List ℕ)). IsDistinct bytes_eq (loc_rib ∷ names)) (sym (names_said rib_name_of (lines_back conf) ∙ rib_names_said conf)) s.ribs)
 
   pub no_double_table : double_table (lines_back conf) ≡ None
   no_double_table =
-      no_double (λ a b. a == b) nat_eq_equiv (named rib_table_of (lines_back conf))
+      no_double (λ a b. a == b) nat_eq_equiv.symm (named rib_table_of (lines_back conf))
       (subst (IsDistinct (λ a b. a == b)) (sym (names_said rib_table_of (lines_back conf) ∙ tables_said (lines_back conf) ∙ ap (filter_map (λ r. r.table)) (ribs_said conf ∙ map-id conf.ribs))) s.tables)
 
   pub no_double_prefix_set : double_of prefix_set_name_of (lines_back conf) ≡ None

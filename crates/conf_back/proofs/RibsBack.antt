@@ -4,8 +4,8 @@ use Rattle.std.specs.Prelude.{bytes_eq, slice_get, option_and_then}
 use Rattle.std.specs.List.{IsDistinct, AllByRecursion, position_or_len}
 use Rattle.std.proofs.lemmas.Bool.{lt-ltb}
 use Rattle.std.proofs.lemmas.Bool.Decides.{nat_tests}
+use Rattle.std.proofs.lemmas.Cmp.{nat_list_eq_equiv}
 use Rattle.std.proofs.lemmas.Option.{slice_get_within}
-use Rattle.std.proofs.lemmas.Slice.Eq.{bytes_eq-Decides}
 use Rattle.conf_tree.specs.declared.conf.Conf.{Conf}
 use Rattle.conf_tree.specs.declared.conf.Rib.{Rib}
 use Rattle.conf_tree.specs.Values.{is_name}
@@ -13,45 +13,31 @@ use Rattle.conf_tree.specs.Canonical.{name_at, rib_name}
 use Rattle.conf_tree.specs.Flat.{loc_rib, below, place_of, rib_number}
 use Rattle.conf_kept.specs.Readable.{IsName, IsWithinLimits}
 use Rattle.conf_kept.specs.Settled.{IsSettled}
+use Rattle.conf_back.proofs.NamesBack.{place_back}
 
 -- ---- names that are the same, and names that differ
 
-pub same_name : (a : List ℕ) → bytes_eq a a ≡ true
-same_name a = (bytes_eq-Decides a a).1 refl
-
-pub unlike_back : (a b : List ℕ) → bytes_eq a b ≡ false → bytes_eq b a ≡ false
-unlike_back a b differs = by (bytes_eq b a) refl
-  where
-    by : (t : Bool) → bytes_eq b a ≡ t → t ≡ false
-    by true is = absurd (true≢false (sym ((bytes_eq-Decides a b).1 (sym ((bytes_eq-Decides b a).0 is))) ∙ differs))
-    by false is = refl
+unlike_back : (a b : List ℕ) → bytes_eq a b ≡ false → bytes_eq b a ≡ false
+unlike_back a b differs = nat_list_eq_equiv.symm b a ∙ differs
 
 -- ---- places
 
 module _ {A : Type 0} (name_of : A → List ℕ) where
   -- what holds of all names of a list holds of the name at a place
-  pub all_at : (P : List ℕ → Type 0) (xs : List A) (k : ℕ) (x : A) → AllByRecursion P (map name_of xs) → slice_get xs k ≡ Some x → P (name_of x)
+  all_at : (P : List ℕ → Type 0) (xs : List A) (k : ℕ) (x : A) → AllByRecursion P (map name_of xs) → slice_get xs k ≡ Some x → P (name_of x)
   all_at P [] k x all at = absurd (cc)
   all_at P (y ∷ xs) zero x all at = let same : y ≡ x = cc in subst (λ z. P (name_of z)) same all.0
   all_at P (y ∷ xs) (suc k) x all at = all_at P xs k x all.1 at
 
-  first_place : (xs : List A) (k : ℕ) (x : A) → IsDistinct bytes_eq (map name_of xs) → slice_get xs k ≡ Some x → position_or_len (λ e. bytes_eq (name_of x) (name_of e)) xs ≡ k
-  unfolding IsDistinct
-  first_place [] k x distinct at = absurd (cc)
-  first_place (y ∷ xs) zero x distinct at = let same : y ≡ x = cc in rw same (rw (same_name (name_of x)) refl)
-  first_place (y ∷ xs) (suc k) x distinct at =
-      rw (unlike_back (name_of y) (name_of x) (all_at (λ n. bytes_eq (name_of y) n ≡ false) xs k x distinct.0 at))
-      (omega (arith, first_place xs k x distinct.1 at))
-
-  pub place_back : (xs : List A) (k : ℕ) (x : A) → IsDistinct bytes_eq (map name_of xs) → slice_get xs k ≡ Some x → place_of name_of xs (name_of x) ≡ Some k
-  place_back xs k x distinct at =
-      ap (λ (n : ℕ). cond (nat_lt n (length xs)) (Some n) None) (first_place xs k x distinct at)
-      ∙ ap (λ (b : Bool). cond b (Some k) None) (lt-ltb k (length xs) (slice_get_within xs k x at))
+  pub place_at : (xs : List A) (k : ℕ) (x : A) → IsDistinct bytes_eq (map name_of xs) → slice_get xs k ≡ Some x → place_of name_of xs (name_of x) ≡ Some k
+  place_at xs k x distinct at =
+      let named : name_of x ≡ name_at name_of xs k = rw at refl in
+      ap (place_of name_of xs) named ∙ place_back name_of xs k (slice_get_within xs k x at) distinct
 
   -- a name that isn't empty stands at its place
-  pub there : (xs : List A) (k : ℕ) → is_name (name_at name_of xs k) ≡ true → (x : A) × (slice_get xs k ≡ Some x) × (name_at name_of xs k ≡ name_of x)
+  named_there : (xs : List A) (k : ℕ) → is_name (name_at name_of xs k) ≡ true → (x : A) × (slice_get xs k ≡ Some x) × (name_at name_of xs k ≡ name_of x)
   unfolding is_name
-  there xs k named = by (slice_get xs k) refl
+  named_there xs k named = by (slice_get xs k) refl
     where
       by : (o : Option A) → slice_get xs k ≡ o → (x : A) × (slice_get xs k ≡ Some x) × (name_at name_of xs k ≡ name_of x)
       by None is = absurd (true≢false (sym named ∙ rw is refl))
@@ -72,7 +58,6 @@ small k h = by (nat_lt (k + 1) 256) refl
     by true is = let same : k + 1 ≡ suc k = omega arith in ap Some same
     by false is = absurd (true≢false (sym (lt-ltb (k + 1) 256 (omega arith)) ∙ is))
 
-
 other_name : (conf : Conf) (k : ℕ) → rib_name conf (suc k) ≡ name_at (λ r. r.name) conf.ribs k
 unfolding rib_name
 other_name conf k = rw (not_zero k) (rw (less_one k) refl)
@@ -82,7 +67,7 @@ unfolding rib_number IsDistinct
 other_number ribs k x few distinct at =
     let within : k < length ribs = slice_get_within ribs k x at in
     rw (unlike_back loc_rib x.name (all_at (λ r. r.name) (λ n. bytes_eq loc_rib n ≡ false) ribs k x distinct.0 at))
-    (ap (λ (o : Option ℕ). option_and_then (λ place. below 256 (place + 1)) o) (place_back (λ r. r.name) ribs k x distinct.1 at) ∙ small k (omega arith))
+    (ap (λ (o : Option ℕ). option_and_then (λ place. below 256 (place + 1)) o) (place_at (λ r. r.name) ribs k x distinct.1 at) ∙ small k (omega arith))
 
 first_number : (conf : Conf) → rib_number conf.ribs (rib_name conf 0) ≡ Some 0
 unfolding rib_number rib_name
@@ -92,5 +77,5 @@ pub rib_number_back : (conf : Conf) (number : ℕ) → IsWithinLimits conf → I
 rib_number_back conf zero fits s h = first_number conf
 rib_number_back conf (suc k) fits s h =
     let named = other_name conf k in
-    let found = there (λ r. r.name) conf.ribs k (sym (ap is_name named) ∙ h.form) in
+    let found = named_there (λ r. r.name) conf.ribs k (sym (ap is_name named) ∙ h.form) in
     ap (rib_number conf.ribs) (named ∙ found.2) ∙ other_number conf.ribs k found.0 fits.ribs s.ribs found.1

@@ -20,7 +20,8 @@ use Rattle.conf_back.proofs.FrameBack.{frame_back}
 use Rattle.conf_back.proofs.RulesBack.{rules_back}
 use Rattle.conf_back.proofs.NoDoubles.{no_double_rib, no_double_table, no_double_prefix_set, no_double_as_set, no_double_origin_set}
 use Rattle.conf_back.proofs.RulesKnown.{no_unknown_rule}
-use Rattle.conf_back.proofs.NeighboursBack.{neighbours_back, no_double_neighbour, none_without_as, no_unknown_neighbour, no_mismatch, no_double_group, group_known}
+use Rattle.conf_back.proofs.NeighboursBack.{neighbours_back, no_double_neighbour, none_without_as, no_unknown_neighbour, no_mismatch}
+use Rattle.conf_back.proofs.GroupsBack.{no_double_group, group_known}
 
 module _ (conf : Conf) (h : IsReadable conf) (fits : IsWithinLimits conf) (s : IsSettled conf) where
   nothing_missing : missing_global (lines_back conf) ≡ None
@@ -29,13 +30,13 @@ module _ (conf : Conf) (h : IsReadable conf) (fits : IsWithinLimits conf) (s : I
 
   names_differ : double_name (lines_back conf) ≡ None
   unfolding double_name
-  names_differ = rw (no_double_rib conf s, no_double_table conf s, no_double_prefix_set conf s, no_double_as_set conf s, no_double_origin_set conf s, no_double_group conf h fits s) refl
+  names_differ = rw (no_double_rib conf s, no_double_table conf s, no_double_prefix_set conf s, no_double_as_set conf s, no_double_origin_set conf s, no_double_group conf) refl
 
   names_known : unknown_name (frame_of (lines_back conf)) (lines_back conf) ≡ None
   unfolding unknown_name
   names_known =
       rw (frame_back conf s)
-      (rw (no_unknown_neighbour conf h fits s, no_unknown_rule conf fits s (groups_of (lines_back conf)) (group_known conf h fits s) h.rules refl) refl)
+      (rw (no_unknown_neighbour conf h fits s, no_unknown_rule conf fits s (groups_of (lines_back conf)) (group_known conf) h.rules refl) refl)
 
   no_fault : first_fault (lines_back conf) ≡ None
   unfolding first_fault

@@ -1,1 +1,3 @@
 pub mod Both
+pub mod Each
+pub mod InOrder

@@ -17,7 +17,8 @@ use Rattle.conf_tree.specs.Flat.{Placed, placed_in, placed, neighbour_of, neighb
 use Rattle.conf_tree.specs.Checks.{group_name_of}
 use Rattle.conf_tree.specs.Canonical.{is_alone, is_of_group, with_name, group_names}
 use Rattle.conf_kept.specs.Readable.{Each, IfThere, total}
-use Rattle.conf_sound.proofs.Lists.{each_append, each_map, insert_key_form, IsEntry, by_key_form}
+use Rattle.conf_sound.proofs.Lists.{each_map, IsEntry, by_key_form}
+use Rattle.conf_kept.proofs.Each.{each_append, each_insert}
 use Rattle.conf_sound.proofs.Totals.{one, total_same, total_le, total_le_each, total_both, total_none, total_ones, total_swap, length_filter}
 use Rattle.conf_sound.proofs.Sizes.{by_key_size}
 use Rattle.conf_sound.proofs.ChoiceSizes.{length_flat_map, length_mapped}
@@ -121,7 +122,7 @@ module _ (names : List (List ℕ)) where
     where
       by : (group : Option (List ℕ)) → IfThere (IsNamed names) group → Each (IsNamed names) (with_name found group)
       by None here = h
-      by (Some name) here = insert_key_form (IsNamed names) text_cmp found name h here
+      by (Some name) here = each_insert (IsNamed names) text_cmp found name h here
 
   names_named : (ns : List Neighbour) → Each IsMember ns → Each (IsNamed names) (group_names ns)
   unfolding group_names

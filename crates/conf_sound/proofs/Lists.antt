@@ -10,12 +10,9 @@ use Rattle.std.specs.BTreeMap.{insert_entry}
 use Rattle.std.specs.BTreeSet.{insert_key}
 use Rattle.conf_tree.specs.Flat.{in_order, with_entry, by_key, followed_by, chosen, choices}
 use Rattle.conf_kept.specs.Readable.{Each, IfThere}
+use Rattle.conf_kept.proofs.Each.{each_append, each_insert}
 
 module _ {A : Type 0} (Is : A → Type 0) where
-  pub each_append : (xs ys : List A) → Each Is xs → Each Is ys → Each Is (xs ++ ys)
-  each_append [] ys h k = k
-  each_append (x ∷ xs) ys h k = (h.0, each_append xs ys h.1 k)
-
   pub last_form : (o : Option A) (xs : List A) → IfThere Is o → Each Is xs → IfThere Is (last_or o xs)
   last_form o [] h k = h
   last_form o (x ∷ xs) h k = last_form (Some x) xs k.0 k.1
@@ -34,25 +31,12 @@ module _ {A : Type 0} (Is : A → Type 0) where
 
   -- ---- lists in order
 
-  pub insert_key_form : (cmp : A → A → Ordering) (xs : List A) (x : A) → Each Is xs → Is x → Each Is (insert_key cmp xs x)
-  insert_key_form cmp [] x h k = (k, tt)
-  insert_key_form cmp (y ∷ ys) x h k = by (cmp x y) (insert_key_form cmp ys x h.1 k)
-    where
-      by : (r : Ordering) → Each Is (insert_key cmp ys x) → Each Is (match_ordering r (x ∷ y ∷ ys) (y ∷ ys) (y ∷ insert_key cmp ys x))
-      by Less behind = (k, h)
-      by Equal behind = h
-      by Greater behind = (h.0, behind)
-
   fold_keys_form : (cmp : A → A → Ordering) (sorted xs : List A) → Each Is sorted → Each Is xs → Each Is (fold (insert_key cmp) sorted xs)
   fold_keys_form cmp sorted [] h k = h
-  fold_keys_form cmp sorted (x ∷ xs) h k = fold_keys_form cmp (insert_key cmp sorted x) xs (insert_key_form cmp sorted x h k.0) k.1
+  fold_keys_form cmp sorted (x ∷ xs) h k = fold_keys_form cmp (insert_key cmp sorted x) xs (each_insert Is cmp sorted x h k.0) k.1
 
   pub in_order_form : (cmp : A → A → Ordering) (xs : List A) → Each Is xs → Each Is (in_order cmp xs)
   in_order_form cmp xs h = fold_keys_form cmp [] xs tt h
-
-  pub each_both : (Also : A → Type 0) (xs : List A) → Each Is xs → Each Also xs → Each (λ x. Is x × Also x) xs
-  each_both Also [] h k = tt
-  each_both Also (x ∷ xs) h k = ((h.0, k.0), each_both Also xs h.1 k.1)
 
   module _ {B : Type 0} (Now : B → Type 0) where
     pub each_map : (f : A → B) (xs : List A) → ((x : A) → Is x → Now (f x)) → Each Is xs → Each Now (map f xs)

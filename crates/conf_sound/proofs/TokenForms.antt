@@ -15,7 +15,8 @@ use Rattle.conf_tree.specs.Reading as reading
 use Rattle.conf_tree.specs.Tokens.{LineRead, line_with, line_read, lines_in, tokens}
 use Rattle.conf_kept.specs.Readable.{IfThere}
 use Rattle.conf_sound.proofs.Finds.{IsGood, AreGood}
-use Rattle.conf_sound.proofs.Lists.{each_append, each_map}
+use Rattle.conf_sound.proofs.Lists.{each_map}
+use Rattle.conf_kept.proofs.Each.{each_append}
 use Rattle.conf_sound.proofs.ReadingForms.{good_drop}
 use Rattle.conf_sound.proofs.StatementForms.{Gives}
 use Rattle.conf_sound.proofs.CutForms.{plain_good, CutsWell, IsLine, first_line_form, split_form}
