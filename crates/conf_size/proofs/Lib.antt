@@ -1,1 +1,3 @@
+pub mod AddressSizes
+pub mod ListSizes
 pub mod Numbers
