@@ -1,10 +1,10 @@
 -- The text of a number, of an address and of a prefix has no more bytes than the greatest of its kind.
-use Rattle.std.proofs.Common.{◌≡◌, ℕ, ◌+◌, ◌-◌, ◌*◌, ◌<◌, ◌≤◌, List, [], ◌∷◌, ◌++◌, length, get_or, take, drop, min, flat_map, codes, decimal, Bool, true, false, refl, arith, length-append, ltb-true}
+use Rattle.std.proofs.Common.{◌≡◌, ℕ, ◌+◌, ◌-◌, ◌*◌, ◌<◌, ◌≤◌, List, [], ◌∷◌, ◌++◌, length, get_or, take, drop, flat_map, codes, decimal, Bool, true, false, refl, arith, length-append, ltb-true}
 use Rattle.std.specs.Prelude.{nat_lt, if◌then◌else◌}
 use Rattle.std.specs.Net.Text.{ipv4_text, hex, groups_text, longest_zero_run, compressed_text, hex_groups_text}
 use Rattle.std.proofs.lemmas.Fmt.{length-decimal-le}
 use Rattle.std.proofs.lemmas.List.{length-drop, length-take}
-use Rattle.std.proofs.NetLemmas.Texts.{IsZeroRun, IsZeroRun-longest_zero_run}
+use Rattle.std.proofs.NetLemmas.Texts.{IsZeroRun-longest_zero_run}
 use Rattle.net_base.specs.declared.addr.Family.{Family}
 use Rattle.net_base.specs.declared.addr.Family.TheVariants.{V4, V6}
 use Rattle.net_base.specs.declared.addr.Addr.{Addr}

@@ -1,5 +1,5 @@
 -- A text made of the entries of a list has no more bytes than the greatest entry times their number.
-use Rattle.std.proofs.Common.{ℕ, suc, ◌+◌, ◌*◌, ◌≤◌, List, [], ◌∷◌, ◌++◌, length, flat_map, arith, length-append}
+use Rattle.std.proofs.Common.{ℕ, ◌+◌, ◌*◌, ◌≤◌, List, [], ◌∷◌, length, flat_map, arith, length-append}
 use Rattle.std.proofs.Math.Nat.{mul-add, mul-suc}
 use Rattle.conf_round.specs.Readable.{Each, total}
 
