@@ -1,1 +1,9 @@
+pub mod AddressSizes
+pub mod EntrySizes
+pub mod ItemSizes
+pub mod ListSizes
+pub mod NeighbourSizes
 pub mod Numbers
+pub mod RuleSizes
+pub mod SetSizes
+pub mod TextSizes
