@@ -1,8 +1,8 @@
 -- The globals and the lists of a canonical text are those of its configuration.
-use Rattle.std.proofs.Common.{◌≡◌, ◌∙◌, ℕ, Bool, true, false, List, [], ◌∷◌, ◌++◌, map, filter, flat_map, refl, ap, sym, map-id, append-nil}
+use Rattle.std.proofs.Common.{◌≡◌, ◌∙◌, ℕ, Bool, true, false, List, [], ◌∷◌, map, filter, flat_map, refl, ap, map-id, append-nil}
 use Rattle.std.specs.Prelude.{unwrap_or}
 use Rattle.std.specs.List.Sorted.{IsStrictlySortedBy}
-use Rattle.std.specs.Ordering.{nat_cmp, on, then_cmp}
+use Rattle.std.specs.Ordering.{nat_cmp}
 use Rattle.std.specs.declared.cmp.Ordering.{Ordering}
 use Rattle.std.specs.Cmp.{IsTotalOrder}
 use Rattle.std.specs.Cmp.Lexicographic.{nat_list_cmp_total}
@@ -17,11 +17,11 @@ use Rattle.conf_tree.specs.declared.sets.OriginSetConf.{OriginSetConf}
 use Rattle.conf_tree.specs.declared.sets.PrefixRange.{PrefixRange}
 use Rattle.conf_tree.specs.declared.sets.PrefixSetConf.{PrefixSetConf}
 use Rattle.conf_tree.specs.Canonical.{is_alone, group_names}
-use Rattle.conf_tree.specs.Said.{said, last_said, last, as_of, router_id_of, hold_of, hold_min_of, fib_update_of, qualify_default_of, med_always_of, socket_of, listen_of, rib_of, prefix_set_of, as_set_of, origin_set_of, roas_of, network_of}
+use Rattle.conf_tree.specs.Said.{last, roas_of}
 use Rattle.conf_tree.specs.Flat.{text_cmp, range_cmp, roa_cmp, in_order, by_key, default_socket, prefix_sets_of, as_sets_of, origin_sets_of, roas_said, networks_of, frame_of}
 use Rattle.conf_kept.specs.Readable.{Each}
 use Rattle.conf_kept.specs.Settled.{IsSettled}
-use Rattle.conf_round.proofs.ReadConf.{listen_unit, rib_unit, prefix_set_unit, as_set_unit, origin_set_unit, roa_units, network_unit, neighbour_unit, group_unit, rule_unit, qualify_units, printed_of}
+use Rattle.conf_round.proofs.ReadConf.{listen_unit, rib_unit, prefix_set_unit, as_set_unit, origin_set_unit, roa_units, network_unit, neighbour_unit, group_unit, rule_unit, qualify_units}
 use Rattle.conf_back.proofs.Framed.{framed, lines_back}
 use Rattle.conf_back.proofs.Told.{Tells, nothing, none_tell, Parts, all_told}
 use Rattle.conf_back.proofs.Selected.{if_true, as_said, router_id_said, hold_said, hold_min_said, fib_update_said, qualify_said, med_always_said, socket_said, listens_said, ribs_said, prefix_sets_said, as_sets_said, origin_sets_said, networks_said}

@@ -1,9 +1,9 @@
 -- The names of sets stand for the sets that have them.
 use Rattle.std.proofs.Common.{◌≡◌, ◌∙◌, ℕ, zero, suc, ◌+◌, ◌<◌, ◌^◌, Bool, true, false, cond, List, [], ◌∷◌, length, map, Option, Some, None, refl, ap, sym, subst, arith, bytes_eq}
-use Rattle.std.specs.Prelude.{nat_lt, slice_get, option_map, option_and_then}
-use Rattle.std.specs.List.{AllByRecursion, IsDistinct, position, position_or_len}
+use Rattle.std.specs.Prelude.{nat_lt, option_map, option_and_then}
+use Rattle.std.specs.List.{AllByRecursion, IsDistinct, position_or_len}
 use Rattle.std.specs.List.Sorted.{IsStrictlySortedBy}
-use Rattle.std.specs.Ordering.{on, nat_cmp, eq_by_cmp}
+use Rattle.std.specs.Ordering.{on}
 use Rattle.std.specs.Cmp.Lexicographic.{nat_list_cmp_total}
 use Rattle.std.proofs.lemmas.Bool.Decides.{nat_tests}
 use Rattle.std.proofs.lemmas.Cmp.{nat_list_eq_equiv}

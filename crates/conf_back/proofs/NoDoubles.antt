@@ -1,10 +1,8 @@
 -- No name of a canonical text comes twice.
-use Rattle.std.proofs.Common.{◌≡◌, ◌∙◌, ℕ, Bool, true, false, cond, ◌||◌, List, [], ◌∷◌, ◌++◌, map, Option, Some, None, refl, ap, sym, subst, map-id, bytes_eq}
+use Rattle.std.proofs.Common.{◌≡◌, ◌∙◌, ℕ, List, [], ◌∷◌, map, Option, Some, None, refl, ap, sym, subst, map-id, bytes_eq}
 use Rattle.std.specs.Prelude.{option_map, option_and_then, filter_map, ◌==◌}
-use Rattle.std.specs.List.{AllByRecursion, IsDistinct, list_any, cons_option}
-use Rattle.std.specs.Cmp.{IsEquivalence}
+use Rattle.std.specs.List.{IsDistinct, cons_option}
 use Rattle.std.proofs.lemmas.Cmp.{nat_eq_equiv, nat_list_eq_equiv}
-use Rattle.std.proofs.lemmas.List.Folds.{list_any-append}
 use Rattle.conf_tree.specs.declared.conf.Conf.{Conf}
 use Rattle.conf_tree.specs.declared.conf.Rib.{Rib}
 use Rattle.conf_tree.specs.declared.draft.Statement.{Statement}
@@ -12,7 +10,7 @@ use Rattle.conf_tree.specs.declared.draft.Statement.TheVariants as says
 use Rattle.conf_tree.specs.declared.draft.StatementLine.{StatementLine}
 use Rattle.conf_tree.specs.Said.{said, rib_of}
 use Rattle.conf_tree.specs.Flat.{loc_rib}
-use Rattle.conf_tree.specs.Checks.{double_after, first_double, named, rib_name_of, rib_table_of, prefix_set_name_of, as_set_name_of, origin_set_name_of, double_of, double_rib, double_table}
+use Rattle.conf_tree.specs.Checks.{named, rib_name_of, rib_table_of, prefix_set_name_of, as_set_name_of, origin_set_name_of, double_of, double_rib, double_table}
 use Rattle.conf_kept.specs.Settled.{IsSettled}
 use Rattle.conf_back.proofs.Framed.{lines_back}
 use Rattle.conf_back.proofs.Selected.{ribs_said, rib_names_said, prefix_set_names_said, as_set_names_said, origin_set_names_said}

@@ -2,7 +2,6 @@
 use Rattle.std.proofs.Common.{◌≡◌, ◌∙◌, ℕ, List, [], ◌∷◌, ◌++◌, map, flat_map, fold, Option, Some, None, refl, ap, sym, append_assoc, append-nil}
 use Rattle.std.specs.Prelude.{option_and_then, option_map, option_to_list}
 use Rattle.conf_tree.specs.declared.conf.Conf.{Conf}
-use Rattle.conf_tree.specs.declared.draft.RuleBlock.{RuleBlock}
 use Rattle.conf_tree.specs.declared.rule.Condition.{Condition}
 use Rattle.conf_tree.specs.declared.rule.Condition.TheVariants as conditions
 use Rattle.conf_tree.specs.declared.rule.Direction.{Direction}

@@ -1,9 +1,8 @@
 -- The rules of a canonical text name nothing that there isn't.
-use Rattle.std.proofs.Common.{◌≡◌, ◌∙◌, ℕ, Bool, true, false, cond, ◌||◌, not, List, [], ◌∷◌, map, Option, Some, None, refl, ap, sym, subst, bytes_eq}
+use Rattle.std.proofs.Common.{◌≡◌, ℕ, true, false, cond, not, List, [], ◌∷◌, map, Option, Some, None, refl, ap, sym, subst, bytes_eq}
 use Rattle.std.specs.Prelude.{is_none, option_map, find}
 use Rattle.std.specs.List.{list_any, cons_option}
 use Rattle.conf_tree.specs.declared.conf.Conf.{Conf}
-use Rattle.conf_tree.specs.declared.draft.ConditionBlock.{ConditionBlock}
 use Rattle.conf_tree.specs.declared.draft.RuleBlock.{RuleBlock}
 use Rattle.conf_tree.specs.declared.draft.Statement.{Statement}
 use Rattle.conf_tree.specs.declared.draft.Statement.TheVariants as says
@@ -15,7 +14,6 @@ use Rattle.conf_tree.specs.declared.rule.Direction.TheVariants.{From, To}
 use Rattle.conf_tree.specs.declared.rule.Peer.{Peer}
 use Rattle.conf_tree.specs.declared.rule.Peer.TheVariants as peers
 use Rattle.conf_tree.specs.declared.rule.Rule.{Rule}
-use Rattle.conf_tree.specs.declared.sets.SetId.{SetId}
 use Rattle.conf_tree.specs.Said.{said, rule_of}
 use Rattle.conf_tree.specs.Canonical.{is_of_group, rib_name}
 use Rattle.conf_tree.specs.Checks.{is_unknown_rib, groups_of, is_unknown_peer, is_unknown_set, has_unknown, is_unknown_rule, unknown_rule}

@@ -1,28 +1,15 @@
 -- The selectors of statements, asked of a canonical text.
-use Rattle.std.proofs.Common.{◌≡◌, ◌∙◌, ℕ, ◌+◌, Bool, true, false, List, [], ◌∷◌, ◌++◌, map, filter, flat_map, Option, Some, None, refl, ap, append-nil, map-id}
-use Rattle.std.specs.Prelude.{filter_map, option_to_list}
-use Rattle.std.specs.List.{cons_option}
-use Rattle.net_base.specs.declared.prefix.Prefix.{Prefix}
-use Rattle.net_base.specs.declared.roa.Roa.{Roa}
+use Rattle.std.proofs.Common.{◌≡◌, ◌∙◌, Bool, true, false, List, [], ◌∷◌, map, filter, refl, append-nil}
 use Rattle.conf_tree.specs.declared.conf.Conf.{Conf}
 use Rattle.conf_tree.specs.declared.conf.Listen.{Listen}
-use Rattle.conf_tree.specs.declared.conf.Network.{Network}
 use Rattle.conf_tree.specs.declared.conf.Rib.{Rib}
-use Rattle.conf_tree.specs.declared.draft.GroupBlock.{GroupBlock}
-use Rattle.conf_tree.specs.declared.draft.NeighbourBlock.{NeighbourBlock}
-use Rattle.conf_tree.specs.declared.draft.RuleBlock.{RuleBlock}
-use Rattle.conf_tree.specs.declared.draft.Statement.{Statement}
-use Rattle.conf_tree.specs.declared.draft.Statement.TheVariants as says
-use Rattle.conf_tree.specs.declared.rule.Item.{Item}
-use Rattle.conf_tree.specs.declared.sets.PrefixRange.{PrefixRange}
 use Rattle.conf_tree.specs.Canonical.{is_alone, group_names}
-use Rattle.conf_tree.specs.Said.{said, as_of, router_id_of, hold_of, hold_min_of, fib_update_of, qualify_default_of, med_always_of, socket_of, listen_of, rib_of, prefix_set_of, as_set_of, origin_set_of, roas_of, network_of, rule_of}
-use Rattle.conf_tree.specs.Checks.{rib_name_of, rib_table_of, prefix_set_name_of, as_set_name_of, origin_set_name_of}
+use Rattle.conf_tree.specs.Said.{said, as_of, router_id_of, hold_of, hold_min_of, fib_update_of, qualify_default_of, med_always_of, socket_of, listen_of, rib_of, prefix_set_of, as_set_of, origin_set_of, network_of, rule_of}
+use Rattle.conf_tree.specs.Checks.{rib_name_of, prefix_set_name_of, as_set_name_of, origin_set_name_of}
 use Rattle.conf_round.proofs.ReadRuleLines.{rule_block}
-use Rattle.conf_round.proofs.ReadWhole.{Printed}
-use Rattle.conf_round.proofs.ReadConf.{listen_unit, rib_unit, prefix_set_unit, as_set_unit, origin_set_unit, roa_units, network_unit, neighbour_unit, group_unit, rule_unit, qualify_units, printed_of}
+use Rattle.conf_round.proofs.ReadConf.{listen_unit, rib_unit, prefix_set_unit, as_set_unit, origin_set_unit, network_unit, neighbour_unit, group_unit, rule_unit, qualify_units}
 use Rattle.conf_back.proofs.Framed.{lines_back}
-use Rattle.conf_back.proofs.Told.{Tells, nothing, one_tells, none_tell, Parts, all_told, listed, said_told, no_qualify, no_roas, unasked, asked, silent}
+use Rattle.conf_back.proofs.Told.{Tells, nothing, Parts, all_told, listed, said_told, no_qualify, no_roas, unasked, asked, silent}
 
 -- `true`, if it is printed
 abbrev pub if_true : Bool → List Bool

@@ -1,8 +1,7 @@
 -- What the statements of a canonical text say, each kind for itself.
 use Rattle.std.proofs.Common.{◌≡◌, ◌∙◌, ℕ, ◌+◌, Bool, true, false, List, [], ◌∷◌, ◌++◌, length, map, filter, flat_map, Option, Some, None, refl, ap, sym, append_assoc}
-use Rattle.std.specs.Prelude.{filter_map, option_to_list}
+use Rattle.std.specs.Prelude.{option_to_list}
 use Rattle.std.specs.List.{cons_option}
-use Rattle.std.proofs.lemmas.Grind.{flat_map-append}
 use Rattle.net_base.specs.declared.roa.Roa.{Roa}
 use Rattle.net_base.specs.declared.prefix.Prefix.{Prefix}
 use Rattle.conf_tree.specs.declared.conf.Conf.{Conf}

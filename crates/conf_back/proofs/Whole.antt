@@ -1,20 +1,17 @@
 -- The canonical text of a configuration says that configuration.
-use Rattle.std.proofs.Common.{◌≡◌, ◌∙◌, ℕ, ◌≤◌, List, length, Option, Some, None, Result, Ok, Err, refl, ap, sym}
-use Rattle.std.specs.Prelude.{option_map, is_none}
-use Rattle.std.specs.Option.{option_or, option_map_or}
+use Rattle.std.proofs.Common.{◌≡◌, ◌∙◌, ℕ, ◌≤◌, length, Option, None, Ok, Err, refl, ap}
+use Rattle.std.specs.Option.{option_map_or}
 use Rattle.net_base.specs.declared.conf.ConfFault.{ConfFault}
-use Rattle.net_base.specs.declared.conf.ConfKind.TheVariants.{DoubleName, UnknownName}
 use Rattle.conf_tree.specs.declared.conf.Conf.{Conf}
 use Rattle.conf_tree.specs.Reading.{◌>>=◌}
-use Rattle.conf_tree.specs.Said.{last, as_of, router_id_of}
 use Rattle.conf_tree.specs.Flat.{placed, frame_of, neighbours_of, rules_of, flat}
-use Rattle.conf_tree.specs.Checks.{fault_at, first_line, missing_global, double_name, double_of, group_name_of, unknown_neighbour, unknown_rule, unknown_name, groups_of, first_fault, checked}
+use Rattle.conf_tree.specs.Checks.{missing_global, double_name, unknown_name, groups_of, first_fault, checked}
 use Rattle.conf_tree.specs.Canonical.{canonical}
 use Rattle.conf_tree.specs.Language.{configuration_within}
 use Rattle.conf_kept.specs.Readable.{IsReadable, IsWithinLimits}
 use Rattle.conf_kept.specs.Settled.{IsSettled}
 use Rattle.conf_round.proofs.ReadConf.{canonical_draft, canonical_draft_back}
-use Rattle.conf_back.proofs.Framed.{framed, lines_back}
+use Rattle.conf_back.proofs.Framed.{lines_back}
 use Rattle.conf_back.proofs.Selected.{as_said, router_id_said}
 use Rattle.conf_back.proofs.FrameBack.{frame_back}
 use Rattle.conf_back.proofs.RulesBack.{rules_back}
@@ -52,6 +49,9 @@ module _ (conf : Conf) (h : IsReadable conf) (fits : IsWithinLimits conf) (s : I
   unfolding checked
   checked_back = ap (λ (fault : Option ConfFault). option_map_or Err fault (Ok (flat (lines_back conf)))) no_fault ∙ ap Ok flat_back
 
-  pub configuration_back : (limit : ℕ) → length (canonical conf) ≤ limit → configuration_within limit (canonical conf) ≡ Ok conf
+  configuration_back : (limit : ℕ) → length (canonical conf) ≤ limit → configuration_within limit (canonical conf) ≡ Ok conf
   unfolding configuration_within
   configuration_back limit short = ap (λ draft. draft >>= checked) (canonical_draft_back limit conf h fits short) ∙ checked_back
+
+pub read_back : (limit : ℕ) (conf : Conf) → IsReadable conf → IsWithinLimits conf → IsSettled conf → length (canonical conf) ≤ limit → configuration_within limit (canonical conf) ≡ Ok conf
+read_back limit conf h fits s short = configuration_back conf h fits s limit short
