@@ -1,2 +1,4 @@
 pub mod CutCounts
+pub mod MacroCounts
 pub mod Numbers
+pub mod TokenCounts
