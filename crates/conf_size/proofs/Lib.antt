@@ -1,4 +1,5 @@
 pub mod CutCounts
 pub mod MacroCounts
 pub mod Numbers
+pub mod SetCounts
 pub mod TokenCounts
