@@ -1,18 +1,17 @@
 -- A line is cut into no more tokens than it has bytes, and its words have bytes.
-use Rattle.std.proofs.Common.{◌≡◌, ◌∙◌, ℕ, zero, suc, ◌+◌, ◌-◌, ◌≤◌, Bool, true, false, cond, List, [], ◌∷◌, length, take, Option, Some, None, Ok, Err, refl, sym, ap, arith, true≢false}
+use Rattle.std.proofs.Common.{◌≡◌, ◌∙◌, ℕ, zero, suc, ◌+◌, ◌-◌, ◌≤◌, Bool, true, false, cond, List, [], ◌∷◌, length, take, Option, Some, None, Ok, Err, refl, sym, arith, true≢false}
 use Rattle.std.specs.Prelude.{nat_lt}
 use Rattle.std.specs.Option.{option_map_or}
-use Rattle.net_base.specs.declared.conf.ConfFault.{ConfFault}
 use Rattle.net_base.specs.declared.conf.ConfKind.TheVariants.{TooLong, OpenQuote, BadByte}
 use Rattle.conf_tree.specs.declared.token.Token.{Token}
 use Rattle.conf_tree.specs.declared.token.TokenKind.{TokenKind}
 use Rattle.conf_tree.specs.declared.token.TokenKind.TheVariants.{Word, Quoted, Mark, LineEnd}
 use Rattle.conf_tree.specs.Joined.{Seen, is_lf, joined}
-use Rattle.conf_tree.specs.Cuts.{Rules, front_is, is_quote, mark_size, is_word_byte, in_blanks, in_word, in_quotes, run, behind, bytes_of, token_at, fault_at, Cut, text_end, closed_by, closed, quoted_cut, mark_cut, end_in_front, word_ended, word_cut, cut_by, cut_at, behind_comment, behind_blanks, first_cut_at, first_cut, Line, is_line_end, in_front_of, line_by, line_in, first_line, plain_rules, split}
+use Rattle.conf_tree.specs.Cuts.{Rules, is_quote, mark_size, is_word_byte, in_blanks, in_word, in_quotes, run, behind, bytes_of, token_at, fault_at, Cut, closed_by, closed, quoted_cut, mark_cut, end_in_front, word_ended, word_cut, cut_by, cut_at, behind_comment, behind_blanks, first_cut_at, first_cut, Line, is_line_end, in_front_of, line_by, line_in, first_line, plain_rules, split}
 use Rattle.conf_tree.specs.Macros.{is_word}
 use Rattle.conf_round.specs.Readable.{Each, can_be_quoted}
 use Rattle.conf_lex.proofs.Takes.{Takes, first_takes}
-use Rattle.conf_sound.proofs.CutForms.{CutIn, CutsWell, NoQuotes, none_behind, none_comment, none_cut, joined_none}
+use Rattle.conf_sound.proofs.CutForms.{CutsWell, NoQuotes, none_behind, none_comment, none_cut, joined_none}
 
 abbrev pub HasBytes : Token → Type 0
 HasBytes token = 1 ≤ length token.text

@@ -8,17 +8,15 @@ use Rattle.std.proofs.lemmas.List.Sums.{sum_by-cons}
 use Rattle.net_base.specs.declared.conf.ConfFault.{ConfFault}
 use Rattle.net_base.specs.declared.conf.ConfKind.TheVariants.{TooLong, UnknownMacro}
 use Rattle.conf_tree.specs.declared.token.Token.{Token}
-use Rattle.conf_tree.specs.declared.token.TokenKind.{TokenKind}
-use Rattle.conf_tree.specs.declared.token.TokenKind.TheVariants.{Word, Quoted, Mark, LineEnd}
 use Rattle.conf_tree.specs.Cuts.{split}
 use Rattle.conf_tree.specs.Macros.{◌>>=◌, Macros, with_macro, is_name, followed, Expanded, most_replaced, text_size, moved, given, given_for, asked, is_word, is_quoted, is_mark_kind, unchanged, replaced, expanded, quoted_value, value_of, begins_definition, defined}
-use Rattle.conf_tree.specs.Reading as reading
 use Rattle.conf_round.specs.Readable.{Each, IfThere}
 use Rattle.conf_round.proofs.Plain.{and_first, and_second}
 use Rattle.conf_sound.proofs.ChoiceSizes.{length_mapped}
 use Rattle.conf_sound.proofs.Finds.{AreGood}
 use Rattle.conf_sound.proofs.Lists.{each_append, each_map}
 use Rattle.conf_sound.proofs.StatementForms.{Gives}
+use Rattle.conf_sound.proofs.TokenForms.{quoted_kind}
 use Rattle.conf_size.proofs.CutCounts.{HasBytes, IsFilled, split_full}
 
 abbrev pub HaveBytes : List Token → Type 0
@@ -114,12 +112,6 @@ expanded_counted macros size (token ∷ found) full h =
     then_counted macros token found size (replaced macros size token) (replaced_counted macros size token full h) (λ behind k. expanded_counted macros behind found full k)
 
 -- ---- what a line defines
-
-quoted_kind : (kind : TokenKind) → is_quoted kind ≡ true → reading.is_quoted kind ≡ true
-quoted_kind Word e = e
-quoted_kind Quoted e = e
-quoted_kind Mark e = e
-quoted_kind LineEnd e = e
 
 quoted_value_full : (found : List Token) → AreGood found → IfThere HaveBytes (quoted_value found)
 quoted_value_full [] g = tt

@@ -1,5 +1,5 @@
 -- A configuration has no more named sets than its text has tokens.
-use Rattle.std.proofs.Common.{◌≡◌, ◌∙◌, ℕ, zero, suc, ◌+◌, ◌≤◌, Bool, true, false, cond, eqb, List, [], ◌∷◌, length, map, Option, Some, None, Result, Ok, Err, arith, sym, subst}
+use Rattle.std.proofs.Common.{◌≡◌, ℕ, zero, suc, ◌+◌, ◌≤◌, Bool, true, false, cond, eqb, List, [], ◌∷◌, length, map, Option, Some, None, Result, Ok, Err, arith, subst}
 use Rattle.std.specs.Option.{option_map_or}
 use Rattle.std.specs.Ordering.{nat_cmp}
 use Rattle.std.specs.declared.cmp.Ordering.{Ordering}
@@ -9,9 +9,6 @@ use Rattle.conf_tree.specs.declared.draft.Draft.{Draft}
 use Rattle.conf_tree.specs.declared.draft.Statement.{Statement}
 use Rattle.conf_tree.specs.declared.draft.Statement.TheVariants as says
 use Rattle.conf_tree.specs.declared.draft.StatementLine.{StatementLine}
-use Rattle.conf_tree.specs.declared.sets.AsSetConf.{AsSetConf}
-use Rattle.conf_tree.specs.declared.sets.OriginSetConf.{OriginSetConf}
-use Rattle.conf_tree.specs.declared.sets.PrefixSetConf.{PrefixSetConf}
 use Rattle.conf_tree.specs.declared.token.Token.{Token}
 use Rattle.conf_tree.specs.Reading.{◌>>=◌, Reading}
 use Rattle.conf_tree.specs.Said.{said, prefix_set_of, as_set_of, origin_set_of}
@@ -23,9 +20,11 @@ use Rattle.conf_tree.specs.Language.{most_text_bytes, draft_within, configuratio
 use Rattle.conf_tree.specs.Macros.{most_replaced}
 use Rattle.conf_round.specs.Readable.{total}
 use Rattle.conf_sound.proofs.ChoiceSizes.{length_mapped}
+use Rattle.conf_sound.proofs.LimitForms.{said_size}
 use Rattle.conf_sound.proofs.Sizes.{by_key_size}
 use Rattle.conf_sound.proofs.StatementForms.{Gives}
-use Rattle.conf_sound.proofs.Totals.{there, total_le, total_both, total_ones, total_filter_map}
+use Rattle.conf_sound.proofs.Totals.{there, total_le, total_both, total_ones}
+use Rattle.conf_sound.proofs.Whole.{gives_then}
 use Rattle.conf_size.proofs.Numbers.{sets_of}
 use Rattle.conf_size.proofs.TokenCounts.{AreWithin, tokens_within}
 
@@ -75,9 +74,6 @@ one_set (says.AsSet name numbers) = omega arith
 one_set (says.OriginSet name entries) = omega arith
 one_set _ = omega arith
 
-said_size : {A : Type 0} (what : Statement → Option A) (lines : List StatementLine) → length (said what lines) ≡ total (λ l. there (λ x. 1) (what l.statement)) lines
-said_size {A} what lines = sym (total_ones (said what lines)) ∙ total_filter_map (λ (x : A). 1) (λ l. what l.statement) lines
-
 -- sets by name are no more than the statements that name one
 named_size : {A S : Type 0} (cmp : A → A → Ordering) (what : Statement → Option (List ℕ × List A)) (make : List ℕ × List A → S) (lines : List StatementLine)
     → length (map make (by_key text_cmp (map (λ set. (set.0, in_order cmp set.1)) (said what lines)))) ≤ total (λ l. there (λ x. 1) (what l.statement)) lines
@@ -119,10 +115,6 @@ checked_few limit draft h = by (first_fault draft.statements)
     by : (fault : Option ConfFault) → Gives (HasFewSets limit) (option_map_or Err fault (Ok (flat draft.statements)))
     by None = omega (arith, h, sets_few draft.statements)
     by (Some fault) = tt
-
-gives_then : {A B : Type 0} (Is : A → Type 0) (Now : B → Type 0) (f : A → Result B ConfFault) → ((x : A) → Is x → Gives Now (f x)) → (r : Result A ConfFault) → Gives Is r → Gives Now (r >>= f)
-gives_then Is Now f w (Ok x) h = w x h
-gives_then Is Now f w (Err fault) h = tt
 
 draft_within_few : (limit : ℕ) (text : List ℕ) → Gives (IsDraftOf limit) (draft_within limit text)
 unfolding draft_within

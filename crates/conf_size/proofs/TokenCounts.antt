@@ -10,7 +10,6 @@ use Rattle.conf_tree.specs.Tokens.{LineRead, line_with, line_read, lines_in, tok
 use Rattle.conf_tree.specs.Language.{most_text_bytes}
 use Rattle.conf_round.specs.Readable.{Each, IfThere}
 use Rattle.conf_lex.proofs.Joining.{joined_length}
-use Rattle.conf_sound.proofs.Finds.{AreGood}
 use Rattle.conf_sound.proofs.StatementForms.{Gives}
 use Rattle.conf_sound.proofs.CutForms.{CutsWell, IsLine, first_line_form}
 use Rattle.conf_sound.proofs.SoundCuts.{Sound, strictly, first_cut_form}
