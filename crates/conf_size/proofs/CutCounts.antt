@@ -13,6 +13,7 @@ use Rattle.conf_round.specs.Readable.{Each, can_be_quoted}
 use Rattle.conf_lex.proofs.Takes.{Takes, first_takes}
 use Rattle.conf_sound.proofs.CutForms.{CutsWell, NoQuotes, none_behind, none_comment, none_cut, joined_none}
 
+-- its text is not empty
 abbrev pub HasBytes : Token → Type 0
 HasBytes token = 1 ≤ length token.text
 
@@ -46,9 +47,10 @@ pub line_leaves : (rules : Rules) (rest : List Seen) → Leaves (length rest) (l
 unfolding first_line
 line_leaves rules rest = line_in_leaves rules (length rest) rest
 
--- ---- what a token is like
+-- ---- what the tokens of a line are like
 
-abbrev pub CutIs : (Token → Type 0) → Cut → Type 0
+-- a token that is cut off is so
+abbrev CutIs : (Token → Type 0) → Cut → Type 0
 CutIs Is (Ok found) = Is found.0
 CutIs Is (Err fault) = Unit {0}
 
@@ -101,7 +103,7 @@ module _ (Is : Token → Type 0) (ends : (token : Token) → is_line_end token.k
       (λ c. cut_if Is (is_word_byte rules b) (word_cut rules seen rest) (Err (fault_at seen BadByte)) (λ c. word_cut_is seen rest b e) (λ c. tt))))
 
   -- where a quoted text may begin
-  pub first_cut_is : ((seen : Seen) (more : List Seen) → CutIs Is (quoted_cut rules seen more)) → (rest : List Seen) → CutIs Is (first_cut rules rest)
+  first_cut_is : ((seen : Seen) (more : List Seen) → CutIs Is (quoted_cut rules seen more)) → (rest : List Seen) → CutIs Is (first_cut rules rest)
   unfolding first_cut cut_at
   first_cut_is q rest = by (behind_blanks rules rest)
     where
@@ -110,7 +112,7 @@ module _ (Is : Token → Type 0) (ends : (token : Token) → is_line_end token.k
       by (seen ∷ more) = cut_by_is seen more seen.byte refl (λ e. q seen more)
 
   -- where none does
-  pub plain_cut_is : (rest : List Seen) → NoQuotes rest → CutIs Is (first_cut rules rest)
+  plain_cut_is : (rest : List Seen) → NoQuotes rest → CutIs Is (first_cut rules rest)
   unfolding first_cut behind_blanks cut_at
   plain_cut_is rest h = by (behind_comment rules (behind in_blanks rest)) (none_comment rules (behind in_blanks rest) (none_behind in_blanks rest h))
     where
@@ -132,7 +134,7 @@ module _ (Is Now : Token → Type 0) (Fine : List Seen → Type 0) (rules : Rule
   each_in zero rest h = tt
   each_in (suc n) rest h = each_by n (first_cut rules rest) (cuts rest h) (each_in n)
 
-  pub each_of_line : (rest : List Seen) → Fine rest → Each Now (first_line rules rest).tokens
+  each_of_line : (rest : List Seen) → Fine rest → Each Now (first_line rules rest).tokens
   unfolding first_line
   each_of_line rest h = each_in (length rest) rest h
 

@@ -19,6 +19,7 @@ use Rattle.conf_sound.proofs.StatementForms.{Gives}
 use Rattle.conf_sound.proofs.TokenForms.{quoted_kind}
 use Rattle.conf_size.proofs.CutCounts.{HasBytes, IsFilled, split_full}
 
+-- each of them does
 abbrev pub HaveBytes : List Token → Type 0
 HaveBytes found = Each HasBytes found
 
