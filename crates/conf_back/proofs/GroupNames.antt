@@ -16,7 +16,7 @@ use Rattle.conf_tree.specs.declared.neighbour.Neighbour.{Neighbour}
 use Rattle.conf_tree.specs.Canonical.{with_name, is_alone, is_of_group, group_names}
 use Rattle.conf_tree.specs.Flat.{text_cmp}
 use Rattle.conf_kept.specs.Readable.{Each, IfThere}
-use Rattle.conf_kept.proofs.InOrder.{names_sorted}
+use Rattle.conf_kept.proofs.GroupNames.{names_sorted}
 use Rattle.conf_kept.proofs.Each.{each_insert}
 use Rattle.conf_back.proofs.NamesBack.{same_name}
 

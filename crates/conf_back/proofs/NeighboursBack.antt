@@ -15,7 +15,7 @@ use Rattle.conf_tree.specs.Said.{remote_as_of, local_address_of, rib_option_of}
 use Rattle.conf_tree.specs.Checks.{same_addr, fault_at, fault_of, is_mismatch, is_unknown_rib, double_neighbour, without_as, family_mismatch, unknown_neighbour}
 use Rattle.conf_kept.specs.Readable.{Each, IfThere, IsNeighbour, IsReadable, IsWithinLimits, members_of}
 use Rattle.conf_kept.specs.Settled.{HasOneFamily, IsSettled}
-use Rattle.conf_round.proofs.GoodRules.{each_filter}
+use Rattle.conf_kept.proofs.Each.{each_filter}
 use Rattle.conf_kept.proofs.Each.{each_append, each_both}
 use Rattle.conf_back.proofs.Framed.{framed, lines_back}
 use Rattle.conf_back.proofs.Merged.{merged}

@@ -1,5 +1,5 @@
 -- What holds of each entry of lists that are made of others.
-use Rattle.std.proofs.Common.{List, [], ◌∷◌, ◌++◌}
+use Rattle.std.proofs.Common.{Bool, true, false, cond, List, [], ◌∷◌, ◌++◌, filter}
 use Rattle.std.specs.Ordering.{match_ordering}
 use Rattle.std.specs.declared.cmp.Ordering.{Ordering}
 use Rattle.std.specs.declared.cmp.Ordering.TheVariants.{Less, Equal, Greater}
@@ -24,3 +24,11 @@ module _ {A : Type 0} (Is : A → Type 0) where
       by Less behind = (k, h)
       by Equal behind = h
       by Greater behind = (h.0, behind)
+
+  each_cond : (passes : Bool) (x : A) (rest : List A) → Is x → Each Is rest → Each Is (cond passes (x ∷ rest) rest)
+  each_cond true x rest h r = (h, r)
+  each_cond false x rest h r = r
+
+  pub each_filter : (test : A → Bool) (xs : List A) → Each Is xs → Each Is (filter test xs)
+  each_filter test [] h = tt
+  each_filter test (x ∷ xs) h = each_cond (test x) x (filter test xs) h.0 (each_filter test xs h.1)

@@ -1,5 +1,5 @@
--- Keys that are put in at their places are in order; so are the names of groups.
-use Rattle.std.proofs.Common.{◌≡◌, ◌∙◌, ℕ, List, [], ◌∷◌, fold, Option, Some, None, refl, ap}
+-- Keys that are put in at their places are in order.
+use Rattle.std.proofs.Common.{◌≡◌, ◌∙◌, List, [], ◌∷◌, refl, ap}
 use Rattle.std.specs.List.{AllByRecursion}
 use Rattle.std.specs.List.Sorted.{IsStrictlySortedBy}
 use Rattle.std.specs.Ordering.{match_ordering, ordering_reverse}
@@ -7,10 +7,6 @@ use Rattle.std.specs.declared.cmp.Ordering.{Ordering}
 use Rattle.std.specs.declared.cmp.Ordering.TheVariants.{Less, Equal, Greater}
 use Rattle.std.specs.BTreeSet.{insert_key}
 use Rattle.std.specs.Cmp.{IsTotalOrder}
-use Rattle.std.specs.Cmp.Lexicographic.{nat_list_cmp_total}
-use Rattle.conf_tree.specs.declared.neighbour.Neighbour.{Neighbour}
-use Rattle.conf_tree.specs.Flat.{text_cmp}
-use Rattle.conf_tree.specs.Canonical.{with_name, group_names}
 
 -- a key below the first of some in order is below them all
 above_first : {K : Type 0} {R : K → K → Ordering} → IsTotalOrder R → (k e : K) (ks : List K) → R k e ≡ Less → AllByRecursion (λ y. R e y ≡ Less) ks → AllByRecursion (λ y. R k y ≡ Less) ks
@@ -39,17 +35,3 @@ module _ {K : Type 0} (R : K → K → Ordering) where
       by Less h behind = ((h, above_first o k e ks h strict.0), strict)
       by Equal h behind = strict
       by Greater h behind = (below_all e k ks (o.antisymm e k ∙ ap ordering_reverse h) strict.0, behind)
-
--- ---- the names of the groups
-
-fold_sorted : (names : List (List ℕ)) (ns : List Neighbour) → IsStrictlySortedBy text_cmp names → IsStrictlySortedBy text_cmp (fold (λ names n. with_name names n.group) names ns)
-fold_sorted names [] strict = strict
-fold_sorted names (n ∷ ns) strict = fold_sorted (with_name names n.group) ns (by n.group)
-  where
-    by : (group : Option (List ℕ)) → IsStrictlySortedBy text_cmp (with_name names group)
-    by None = strict
-    by (Some name) = insert_sorted text_cmp nat_list_cmp_total names name strict
-
-pub names_sorted : (ns : List Neighbour) → IsStrictlySortedBy text_cmp (group_names ns)
-unfolding group_names IsStrictlySortedBy
-names_sorted ns = fold_sorted [] ns tt

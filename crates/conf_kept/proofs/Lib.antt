@@ -1,3 +1,4 @@
 pub mod Both
 pub mod Each
 pub mod InOrder
+pub mod GroupNames

@@ -32,6 +32,8 @@ use Rattle.conf_tree.specs.declared.rule.Rule.{Rule}
 use Rattle.conf_tree.specs.RuleReading.{place_of}
 use Rattle.conf_tree.specs.Tokens.{tokens}
 use Rattle.conf_tree.specs.Canonical.{yes_no, unicast, with_name, rib_name, prefix_set_name, as_set_name, origin_set_name, pattern_text, large_pattern_text, is_alone, is_of_group, group_names, action_word, direction_word, path_word, ovs_word, family_word, canonical}
+use Rattle.conf_kept.proofs.Each.{each_filter}
+use Rattle.conf_kept.proofs.GroupNames.{each_group}
 use Rattle.conf_kept.specs.Readable.{Each, IfThere, IsName, IsQuotedText, IsGroupName, IsWithin, IsHold, IsItem, IsRib, IsAs, IsNetwork, IsNeighbour, IsPeer, least_as, IsCondition, IsRuleRib, IsRule, IsReadable}
 use Rattle.conf_round.proofs.Pieces.{Piece, IsText, lines_text}
 use Rattle.conf_round.proofs.Words.{keyword, addr_word}
@@ -141,35 +143,6 @@ neighbour_good conf n h =
     good_block (first (codes "neighbor") ∷ word (addr_text n.address) ∷ opening ∷ []) (option_lines conf n)
     (from_first (codes "neighbor") (word (addr_text n.address) ∷ opening ∷ []) (keyword 110 (codes "eighbor") refl) (with_word (addr_text n.address) (opening ∷ []) (addr_word n.address) (with_opening [] tt)))
     (good_both (link_lines n) (open_lines n ++ route_lines conf n) (link_good conf n h) (good_both (open_lines n) (route_lines conf n) (open_good conf n h) (route_good conf n h)))
-
-each_cond : {A : Type 0} (Is : A → Type 0) (passes : Bool) (x : A) (rest : List A) → Is x → Each Is rest → Each Is (cond passes (x ∷ rest) rest)
-each_cond Is true x rest h r = (h, r)
-each_cond Is false x rest h r = r
-
-pub each_filter : {A : Type 0} (Is : A → Type 0) (test : A → Bool) (xs : List A) → Each Is xs → Each Is (filter test xs)
-each_filter Is test [] h = tt
-each_filter Is test (x ∷ xs) h = each_cond Is (test x) x (filter test xs) h.0 (each_filter Is test xs h.1)
-
-each_placed : {A : Type 0} (Is : A → Type 0) (o : Ordering) (k x : A) (xs inner : List A) → Is k → Is x → Each Is xs → Each Is inner → Each Is (match_ordering o (k ∷ x ∷ xs) (x ∷ xs) (x ∷ inner))
-each_placed Is Less k x xs inner hk hx hs hi = (hk, (hx, hs))
-each_placed Is Equal k x xs inner hk hx hs hi = (hx, hs)
-each_placed Is Greater k x xs inner hk hx hs hi = (hx, hi)
-
-each_insert : {A : Type 0} (Is : A → Type 0) (cmp : A → A → Ordering) (xs : List A) (k : A) → Each Is xs → Is k → Each Is (insert_key cmp xs k)
-each_insert Is cmp [] k h p = (p, tt)
-each_insert Is cmp (x ∷ xs) k h p = each_placed Is (cmp k x) k x xs (insert_key cmp xs k) p h.0 h.1 (each_insert Is cmp xs k h.1 p)
-
-each_with : (names : List (List ℕ)) (group : Option (List ℕ)) → Each IsGroupName names → IfThere IsGroupName group → Each IsGroupName (with_name names group)
-each_with names None h p = h
-each_with names (Some name) h p = each_insert IsGroupName (slice_cmp nat_cmp) names name h p
-
-each_name : (conf : Conf) (names : List (List ℕ)) (ns : List Neighbour) → Each IsGroupName names → Each (IsNeighbour conf) ns → Each IsGroupName (fold (λ names n. with_name names n.group) names ns)
-each_name conf names [] h p = h
-each_name conf names (n ∷ ns) h p = each_name conf (with_name names n.group) ns (each_with names n.group h p.0.group) p.1
-
-pub each_group : (conf : Conf) (ns : List Neighbour) → Each (IsNeighbour conf) ns → Each IsGroupName (group_names ns)
-unfolding group_names
-each_group conf ns h = each_name conf [] ns tt h
 
 group_good : (conf : Conf) → Each (IsNeighbour conf) conf.neighbours → (name : List ℕ) → IsGroupName name → AreGoodLines (group_lines conf name)
 group_good conf ns name h =

@@ -26,7 +26,9 @@ use Rattle.conf_round.specs.Read.{IsRead}
 use Rattle.conf_round.proofs.Pieces.{Piece, line_finish}
 use Rattle.conf_round.proofs.SetLines.{as_pieces, router_id_pieces, hold_pieces, hold_min_pieces, fib_update_pieces, qualify_pieces, med_pieces, socket_pieces, listen_pieces, rib_pieces, head_pieces, range_pieces, number_pieces, roa_pieces, set_lines, prefix_set_lines, as_set_lines, origin_set_lines, roa_set_lines, network_pieces}
 use Rattle.conf_round.proofs.RuleLines.{option_lines, neighbour_lines, group_lines, rule_pieces, canonical_lines}
-use Rattle.conf_round.proofs.GoodRules.{each_filter, each_group, canonical_tokens}
+use Rattle.conf_kept.proofs.Each.{each_filter}
+use Rattle.conf_kept.proofs.GroupNames.{each_group}
+use Rattle.conf_round.proofs.GoodRules.{canonical_tokens}
 use Rattle.conf_round.proofs.Texts.{lines_tokens}
 use Rattle.conf_round.proofs.ReadOptions.{StartsLine}
 use Rattle.conf_round.proofs.ReadStatements.{LineBack, as_back, router_id_back, hold_statement_back, hold_min_back, fib_update_back, qualify_back, med_compare_back, socket_back, listen_back, rib_back, network_back}

@@ -1,9 +1,13 @@
 pub mod AddressSizes
+pub mod CutCounts
 pub mod EntrySizes
 pub mod ItemSizes
 pub mod ListSizes
+pub mod MacroCounts
 pub mod NeighbourSizes
 pub mod Numbers
 pub mod RuleSizes
+pub mod SetCounts
 pub mod SetSizes
 pub mod TextSizes
+pub mod TokenCounts

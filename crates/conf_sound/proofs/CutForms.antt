@@ -69,7 +69,7 @@ IsNoQuote seen = byte_is is_quote seen ≡ false
 abbrev pub NoQuotes : List Seen → Type 0
 NoQuotes rest = Each IsNoQuote rest
 
-none_behind : (p : List Seen → Bool) (rest : List Seen) → NoQuotes rest → NoQuotes (behind p rest)
+pub none_behind : (p : List Seen → Bool) (rest : List Seen) → NoQuotes rest → NoQuotes (behind p rest)
 unfolding behind
 none_behind p [] h = tt
 none_behind p (seen ∷ rest) h = by (p (seen ∷ rest)) (none_behind p rest h.1)
@@ -114,7 +114,7 @@ module _ (rules : Rules) where
       (λ q. cut_either (nat_lt 0 (mark_size (seen ∷ rest))) (mark_cut (mark_size (seen ∷ rest)) seen rest) last (λ e. mark_cut_form Fine (mark_size (seen ∷ rest)) seen rest m)
       (λ e. cut_either (is_word_byte rules b) (word_cut rules seen rest) (Err (fault_at seen BadByte)) (λ e. word_cut_form Fine seen rest w) (λ e. cut_err (fault_at seen BadByte)))))
 
-  none_comment : (rest : List Seen) → NoQuotes rest → NoQuotes (behind_comment rules rest)
+  pub none_comment : (rest : List Seen) → NoQuotes rest → NoQuotes (behind_comment rules rest)
   none_comment rest h = by (front_is is_hash rest) (none_behind (in_comment rules) rest h)
     where
       by : (b : Bool) → NoQuotes (behind (in_comment rules) rest) → NoQuotes (cond b (behind (in_comment rules) rest) rest)
@@ -126,11 +126,11 @@ module _ (rules : Rules) where
   none_first [] h = record { well = tt }
   none_first (seen ∷ rest) h = unquoted_cut_form NoQuotes seen rest seen.byte h.0 h.1 (none_drop _ rest h.1) (none_behind (in_word rules) rest h.1)
 
-  none_cut : (rest : List Seen) → NoQuotes rest → CutsWell NoQuotes (first_cut rules rest)
+  pub none_cut : (rest : List Seen) → NoQuotes rest → CutsWell NoQuotes (first_cut rules rest)
   unfolding first_cut behind_blanks
   none_cut rest h = none_first _ (none_comment (behind in_blanks rest) (none_behind in_blanks rest h))
 
-joined_none : (flag : Bool) (line place : ℕ) (text : List ℕ) → can_be_quoted text ≡ true → NoQuotes (joined_from flag line place text)
+pub joined_none : (flag : Bool) (line place : ℕ) (text : List ℕ) → can_be_quoted text ≡ true → NoQuotes (joined_from flag line place text)
 unfolding joined_from
 joined_none flag line place [] h = (refl, tt)
 joined_none flag line place (b ∷ text) h =

@@ -14,7 +14,7 @@ use Rattle.conf_tree.specs.declared.neighbour.Neighbour.{Neighbour}
 use Rattle.conf_tree.specs.Flat.{text_cmp}
 use Rattle.conf_tree.specs.Canonical.{with_name, group_names}
 use Rattle.conf_kept.specs.Readable.{total}
-use Rattle.conf_kept.proofs.InOrder.{names_sorted}
+use Rattle.conf_kept.proofs.GroupNames.{names_sorted}
 use Rattle.conf_sound.proofs.Totals.{one}
 
 -- each name is there once at most

@@ -33,7 +33,7 @@ use Rattle.conf_sound.proofs.GroupSizes.{few_neighbours, few_groups}
 said_total : {A : Type 0} (count : A → ℕ) (what : Statement → Option A) (lines : List StatementLine) → total count (said what lines) ≡ total (λ l. there count (what l.statement)) lines
 said_total count what lines = total_filter_map count (λ l. what l.statement) lines
 
-said_size : {A : Type 0} (what : Statement → Option A) (lines : List StatementLine) → length (said what lines) ≡ total (λ l. there (λ x. 1) (what l.statement)) lines
+pub said_size : {A : Type 0} (what : Statement → Option A) (lines : List StatementLine) → length (said what lines) ≡ total (λ l. there (λ x. 1) (what l.statement)) lines
 said_size {A} what lines = sym (total_ones (said what lines)) ∙ said_total (λ (x : A). 1) what lines
 
 -- ---- sets

@@ -88,7 +88,7 @@ expanded_good macros size (token ∷ found) h g = then_good macros found (replac
 
 -- ---- what a line defines
 
-quoted_kind : (kind : TokenKind) → is_quoted kind ≡ true → reading.is_quoted kind ≡ true
+pub quoted_kind : (kind : TokenKind) → is_quoted kind ≡ true → reading.is_quoted kind ≡ true
 quoted_kind Word e = e
 quoted_kind Quoted e = e
 quoted_kind Mark e = e

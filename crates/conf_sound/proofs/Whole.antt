@@ -16,7 +16,7 @@ use Rattle.conf_sound.proofs.LimitForms.{checked_within}
 
 -- what comes of a part that gives good values
 module _ {A B : Type 0} (Is : A → Type 0) (Now : B → Type 0) (f : A → Result B ConfFault) (w : (x : A) → Is x → Gives Now (f x)) where
-  gives_then : (r : Result A ConfFault) → Gives Is r → Gives Now (r >>= f)
+  pub gives_then : (r : Result A ConfFault) → Gives Is r → Gives Now (r >>= f)
   gives_then (Ok x) h = w x h
   gives_then (Err fault) h = tt
 
