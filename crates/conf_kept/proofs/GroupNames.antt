@@ -1,5 +1,5 @@
 -- The names of the groups of neighbours are in order, and each is one that a text can give.
-use Rattle.std.proofs.Common.{◌≡◌, ℕ, List, [], ◌∷◌, fold, Option, Some, None}
+use Rattle.std.proofs.Common.{ℕ, List, [], ◌∷◌, fold, Option, Some, None}
 use Rattle.std.specs.List.Sorted.{IsStrictlySortedBy}
 use Rattle.std.specs.Cmp.Lexicographic.{slice_cmp, nat_list_cmp_total}
 use Rattle.std.specs.Ordering.{nat_cmp}

@@ -1,6 +1,6 @@
 -- What every configuration keeps whose text has passed its checks: its lists are in their order, no name comes twice, and each
 -- name stands for something that there is.
-use Rattle.std.specs.Prelude.{◌≡◌, ℕ, ◌<◌, ◌^◌, true, List, ◌∷◌, map, filter_map, bytes_eq, ◌==◌}
+use Rattle.std.specs.Prelude.{◌≡◌, ◌<◌, ◌^◌, true, ◌∷◌, map, filter_map, bytes_eq, ◌==◌}
 use Rattle.std.specs.List.{IsDistinct, list_any}
 use Rattle.std.specs.List.Sorted.{IsStrictlySortedBy}
 use Rattle.std.specs.Ordering.{nat_cmp, on}

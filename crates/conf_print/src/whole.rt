@@ -1,5 +1,6 @@
 ghost use Rattle.std.specs.Prelude.{◌≡◌, IfOk};
 ghost use Rattle.conf_tree.specs.Canonical.{canonical};
+ghost use Rattle.conf_print.specs.ReadBack.{IsReadBack};
 
 use crate::globals::print_globals;
 use crate::groups::print_neighbours;
@@ -17,8 +18,18 @@ use std::alloc::Global;
 /// of the configuration are. A set or RIB that the configuration names by number and doesn't have is printed as no name.
 ///
 /// The only error is refused memory.
-#[tactic(auto, unfolding(conf_tree::specs::Canonical::canonical))]
+#[tactic(auto, using(crate::proofs::ReadBack::said_again))]
 pub fn print(alloc: Global, conf: &Conf) -> Result<Bytes, NoMemory>
+    ensures text { IfOk result (λ text. text ≡ canonical conf.now) }
+    // Read with the limit of canonical texts, it says this configuration, if any text does.
+    ensures reads_back { IfOk result (IsReadBack conf.now) }
+{
+    print_lines(alloc, conf)
+}
+
+/// The lines of the text, from the globals to the rules.
+#[tactic(auto, unfolding(conf_tree::specs::Canonical::canonical))]
+fn print_lines(alloc: Global, conf: &Conf) -> Result<Bytes, NoMemory>
     ensures { IfOk result (λ text. text ≡ canonical conf.now) }
 {
     let mut text = Printed::new(alloc);

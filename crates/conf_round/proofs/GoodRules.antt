@@ -1,11 +1,6 @@
 -- The lines of neighbours, groups and rules are good where their values can be written, and so the tokens of a canonical
 -- text are those that were printed.
-use Rattle.std.proofs.Common.{◌≡◌, ◌∙◌, ℕ, ◌≤◌, Bool, true, false, cond, List, [], ◌∷◌, ◌++◌, length, map, flat_map, filter, fold, codes, decimal, Option, Some, None, Ok, refl, ap, subst, arith}
-use Rattle.std.specs.Ordering.{match_ordering, nat_cmp}
-use Rattle.std.specs.declared.cmp.Ordering.{Ordering}
-use Rattle.std.specs.declared.cmp.Ordering.TheVariants.{Less, Equal, Greater}
-use Rattle.std.specs.BTreeSet.{insert_key}
-use Rattle.std.specs.Cmp.Lexicographic.{slice_cmp}
+use Rattle.std.proofs.Common.{◌≡◌, ◌∙◌, ℕ, ◌≤◌, Bool, true, false, List, [], ◌∷◌, ◌++◌, length, map, flat_map, filter, codes, decimal, Option, Some, None, Ok, refl, ap, subst, arith}
 use Rattle.net_base.specs.declared.addr.Family.{Family}
 use Rattle.net_base.specs.declared.addr.Family.TheVariants.{V4, V6}
 use Rattle.net_base.specs.declared.addr.Addr.{Addr}
@@ -31,7 +26,7 @@ use Rattle.conf_tree.specs.declared.rule.Condition.TheVariants as conditions
 use Rattle.conf_tree.specs.declared.rule.Rule.{Rule}
 use Rattle.conf_tree.specs.RuleReading.{place_of}
 use Rattle.conf_tree.specs.Tokens.{tokens}
-use Rattle.conf_tree.specs.Canonical.{yes_no, unicast, with_name, rib_name, prefix_set_name, as_set_name, origin_set_name, pattern_text, large_pattern_text, is_alone, is_of_group, group_names, action_word, direction_word, path_word, ovs_word, family_word, canonical}
+use Rattle.conf_tree.specs.Canonical.{yes_no, unicast, rib_name, prefix_set_name, as_set_name, origin_set_name, pattern_text, large_pattern_text, is_alone, is_of_group, group_names, action_word, direction_word, path_word, ovs_word, family_word, canonical}
 use Rattle.conf_kept.proofs.Each.{each_filter}
 use Rattle.conf_kept.proofs.GroupNames.{each_group}
 use Rattle.conf_kept.specs.Readable.{Each, IfThere, IsName, IsQuotedText, IsGroupName, IsWithin, IsHold, IsItem, IsRib, IsAs, IsNetwork, IsNeighbour, IsPeer, least_as, IsCondition, IsRuleRib, IsRule, IsReadable}

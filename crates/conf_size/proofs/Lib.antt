@@ -11,3 +11,4 @@ pub mod SetCounts
 pub mod SetSizes
 pub mod TextSizes
 pub mod TokenCounts
+pub mod Short
