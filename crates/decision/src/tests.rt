@@ -49,6 +49,76 @@ fn route(last: u8) -> Row {
     }
 }
 
+/// A route of the speaker itself.
+fn own() -> Row {
+    Row {
+        from: Origin::Local,
+        neighbour: None,
+        ..route(9)
+    }
+}
+
+/// The same from an internal neighbour.
+fn internal(last: u8) -> Row {
+    Row {
+        from: Origin::Internal(peer(last)),
+        ..route(last)
+    }
+}
+
+impl Row {
+    fn of_as(self, asn: u32) -> Row {
+        Row {
+            neighbour: Some(asn),
+            ..self
+        }
+    }
+
+    fn without_path(self) -> Row {
+        Row {
+            neighbour: None,
+            ..self
+        }
+    }
+
+    fn times(self, times: u8) -> Row {
+        Row { times, ..self }
+    }
+
+    fn local_pref(self, local_pref: u32) -> Row {
+        Row {
+            local_pref: Some(local_pref),
+            ..self
+        }
+    }
+
+    fn origin(self, origin: u8) -> Row {
+        Row { origin, ..self }
+    }
+
+    fn med(self, med: u32) -> Row {
+        Row {
+            med: Some(med),
+            ..self
+        }
+    }
+
+    fn weight(self, weight: u32) -> Row {
+        Row { weight, ..self }
+    }
+
+    fn id(self, bgp_id: u32) -> Row {
+        Row { bgp_id, ..self }
+    }
+
+    fn ineligible(self) -> Row {
+        Row {
+            eligible: false,
+            ..self
+        }
+    }
+}
+
 fn candidate(alloc: Global, row: Row) -> Result<Candidate, Fail> {
     let mut path = Path::new(alloc);
     if let Some(asn) = row.neighbour {
@@ -95,158 +165,53 @@ fn best_of_rows(alloc: Global, rows: &[Row], med_always: bool) -> Result<Option<
 // and the lower identifier decides.
 #[test]
 fn med_in_any_order(rt: HostRuntime) -> Result<(), Fail> {
-    let second = Row {
-        med: Some(20),
-        ..route(2)
-    };
+    let second = route(2).med(20);
     let third = route(3);
-    let fourth = Row {
-        neighbour: Some(65002),
-        med: Some(10),
-        ..route(4)
-    };
-    let best = Some(Origin::External(peer(3)));
-    assert_eq!(rt;
-        best_of_rows(rt.alloc(), &[second, third, fourth], false)?,
-        best
-    );
-    assert_eq!(rt;
-        best_of_rows(rt.alloc(), &[second, fourth, third], false)?,
-        best
-    );
-    assert_eq!(rt;
-        best_of_rows(rt.alloc(), &[third, second, fourth], false)?,
-        best
-    );
-    assert_eq!(rt;
-        best_of_rows(rt.alloc(), &[third, fourth, second], false)?,
-        best
-    );
-    assert_eq!(rt;
-        best_of_rows(rt.alloc(), &[fourth, second, third], false)?,
-        best
-    );
-    assert_eq!(rt;
-        best_of_rows(rt.alloc(), &[fourth, third, second], false)?,
-        best
-    );
+    let fourth = route(4).of_as(65002).med(10);
+    for (one, two, three) in [
+        (second, third, fourth),
+        (second, fourth, third),
+        (third, second, fourth),
+        (third, fourth, second),
+        (fourth, second, third),
+        (fourth, third, second),
+    ] {
+        let best = best_of_rows(rt.alloc(), &[one, two, three], false)?;
+        assert_eq!(rt; best, Some(third.from));
+    }
     Ok(())
 }
 
 // Each step with a better candidate and a worse one, that would win by each later step.
 #[test]
 fn each_step_decides(rt: HostRuntime) -> Result<(), Fail> {
-    let local = Row {
-        from: Origin::Local,
-        neighbour: None,
-        ..route(9)
+    let other_family = Row {
+        from: Origin::External(peer_v6()),
+        ..route(2)
     };
-    let internal = |last: u8| Row {
-        from: Origin::Internal(peer(last)),
-        ..route(last)
-    };
-    let steps = [
-        (
-            route(3),
-            Row {
-                eligible: false,
-                local_pref: Some(200),
-                ..route(2)
-            },
-        ),
-        (
-            Row {
-                local_pref: Some(101),
-                times: 3,
-                ..route(3)
-            },
-            route(2),
-        ),
-        (
-            route(3),
-            Row {
-                local_pref: Some(99),
-                ..route(2)
-            },
-        ),
-        (
-            local,
-            Row {
-                weight: 7,
-                ..route(2)
-            },
-        ),
-        (
-            Row {
-                origin: 2,
-                ..route(3)
-            },
-            Row {
-                times: 2,
-                ..route(2)
-            },
-        ),
-        (
-            Row {
-                med: Some(9),
-                ..route(3)
-            },
-            Row {
-                origin: 1,
-                ..route(2)
-            },
-        ),
-        (
-            internal(3),
-            Row {
-                med: Some(1),
-                ..route(3)
-            },
-        ),
-        (
-            route(3),
-            Row {
-                weight: 9,
-                ..internal(2)
-            },
-        ),
-        (
-            Row {
-                weight: 1,
-                ..route(3)
-            },
-            route(2),
-        ),
-        (
-            Row {
-                bgp_id: 1,
-                ..route(3)
-            },
-            route(2),
-        ),
-        (
-            Row {
-                bgp_id: 7,
-                ..route(2)
-            },
-            Row {
-                bgp_id: 7,
-                ..route(3)
-            },
-        ),
-        (
-            Row {
-                bgp_id: 7,
-                ..route(3)
-            },
-            Row {
-                bgp_id: 7,
-                from: Origin::External(peer_v6()),
-                ..route(2)
-            },
-        ),
-    ];
-    for (better, worse) in steps {
+    for (better, worse) in [
+        // eligible
+        (route(3), route(2).local_pref(200).ineligible()),
+        // the greater LOCAL_PREF, which is 100 where there is none
+        (route(3).local_pref(101).times(3), route(2)),
+        (route(3), route(2).local_pref(99)),
+        // the shorter path
+        (route(3).origin(2), route(2).times(2)),
+        // the lower ORIGIN
+        (route(3).med(9), route(2).origin(1)),
+        // the lower MED of one neighbour AS, which is 0 where there is none
+        (internal(3), route(3).med(1)),
+        // own routes before external ones, and those before internal ones
+        (own(), route(2).without_path().weight(9)),
+        (route(3), internal(2).weight(9)),
+        // the greater weight
+        (route(3).weight(1), route(2)),
+        // the lower identifier
+        (route(3).id(1), route(2)),
+        // the lower address, IPv4 before IPv6
+        (route(2).id(7), route(3).id(7)),
+        (route(3).id(7), other_family.id(7)),
+    ] {
         let first = best_of_rows(rt.alloc(), &[better, worse], false)?;
         assert_eq!(rt; first, Some(better.from));
         let second = best_of_rows(rt.alloc(), &[worse, better], false)?;
@@ -258,14 +223,8 @@ fn each_step_decides(rt: HostRuntime) -> Result<(), Fail> {
 // A lower MED of another neighbour AS counts only where all MEDs are compared.
 #[test]
 fn med_of_other_neighbours(rt: HostRuntime) -> Result<(), Fail> {
-    let high = Row {
-        med: Some(20),
-        ..route(2)
-    };
-    let low = Row {
-        med: Some(10),
-        ..route(3)
-    };
+    let high = route(2).med(20);
+    let low = route(3).med(10);
     let strict = best_of_rows(rt.alloc(), &[high, low], false)?;
     assert_eq!(rt; strict, Some(high.from));
     let always = best_of_rows(rt.alloc(), &[high, low], true)?;
@@ -276,10 +235,7 @@ fn med_of_other_neighbours(rt: HostRuntime) -> Result<(), Fail> {
 #[test]
 fn nobody_is_eligible(rt: HostRuntime) -> Result<(), Fail> {
     assert_eq!(rt; best_of_rows(rt.alloc(), &[], false)?, None);
-    let row = Row {
-        eligible: false,
-        ..route(2)
-    };
+    let row = route(2).ineligible();
     assert_eq!(rt; best_of_rows(rt.alloc(), &[row], true)?, None);
     Ok(())
 }
@@ -298,13 +254,7 @@ fn a_set_in_front(rt: HostRuntime) -> Result<(), Fail> {
     one.attrs
         .path
         .push(Segment::Set(Items::from_slice(rt.alloc(), &[65004, 1])?))?;
-    let two = candidate(
-        rt.alloc(),
-        Row {
-            med: Some(10),
-            ..route(4)
-        },
-    )?;
+    let two = candidate(rt.alloc(), route(4).med(10))?;
     assert_eq!(rt; best(&[one, two], false), Some(1));
     Ok(())
 }
