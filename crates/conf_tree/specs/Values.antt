@@ -1,5 +1,5 @@
 -- The values that stand in a configuration: numbers, addresses, prefixes, names and quoted texts.
-use Rattle.std.specs.Prelude.{ℕ, ◌+◌, ◌*◌, ◌^◌, Bool, true, false, ◌&&◌, ◌||◌, List, [], ◌∷◌, length, take, drop, Option, None, Some, option_map, option_and_then, Ok, if◌then◌else◌, ◌==◌, nat_lt, nat_le, bytes_eq, codes}
+use Rattle.std.specs.Prelude.{ℕ, ◌+◌, ◌*◌, ◌^◌, Bool, true, false, ◌&&◌, ◌||◌, List, [], length, take, drop, Option, None, Some, option_map, option_and_then, Ok, if◌then◌else◌, ◌==◌, nat_lt, nat_le, bytes_eq, codes}
 use Rattle.std.specs.List.{list_all, position_or_len}
 use Rattle.std.specs.Option.{option_map_or}
 use Rattle.net_base.specs.declared.addr.Family.{Family}
