@@ -8,7 +8,7 @@ use Rattle.std.proofs.lemmas.Cmp.{nat_list_eq_equiv}
 use Rattle.std.proofs.lemmas.Option.{slice_get_within}
 use Rattle.conf_tree.specs.declared.conf.Conf.{Conf}
 use Rattle.conf_tree.specs.declared.conf.Rib.{Rib}
-use Rattle.conf_tree.specs.Values.{is_name}
+use Rattle.conf_tree.specs.Names.{is_name}
 use Rattle.conf_tree.specs.Canonical.{name_at, rib_name}
 use Rattle.conf_tree.specs.Flat.{loc_rib, below, place_of, rib_number}
 use Rattle.conf_kept.specs.Readable.{IsName, IsWithinLimits}

@@ -3,7 +3,7 @@ use Rattle.std.proofs.Common.{◌≡◌, ◌∙◌, ℕ, ◌≤◌, length, Opti
 use Rattle.std.specs.Option.{option_map_or}
 use Rattle.net_base.specs.declared.conf.ConfFault.{ConfFault}
 use Rattle.conf_tree.specs.declared.conf.Conf.{Conf}
-use Rattle.conf_tree.specs.Reading.{◌>>=◌}
+use Rattle.conf_tree.specs.Faults.{◌>>=◌}
 use Rattle.conf_tree.specs.Flat.{placed, frame_of, neighbours_of, rules_of, flat}
 use Rattle.conf_tree.specs.Checks.{missing_global, double_name, unknown_name, groups_of, first_fault, checked}
 use Rattle.conf_tree.specs.Canonical.{canonical}

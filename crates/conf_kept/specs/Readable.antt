@@ -33,7 +33,8 @@ use Rattle.conf_tree.specs.declared.sets.PrefixRange.{PrefixRange}
 use Rattle.conf_tree.specs.declared.sets.PrefixSetConf.{PrefixSetConf}
 use Rattle.conf_tree.specs.declared.sets.AsSetConf.{AsSetConf}
 use Rattle.conf_tree.specs.declared.sets.OriginSetConf.{OriginSetConf}
-use Rattle.conf_tree.specs.Values.{is_name, is_quoted_group_name, most_name_bytes, most_quoted_bytes}
+use Rattle.conf_tree.specs.Names.{is_name}
+use Rattle.conf_tree.specs.Values.{is_quoted_group_name, most_name_bytes, most_quoted_bytes}
 use Rattle.conf_tree.specs.ItemReading.{is_to, is_network, most_items}
 use Rattle.conf_tree.specs.RuleReading.{most_conditions, place_of}
 use Rattle.conf_tree.specs.Canonical.{prefix_set_name, as_set_name, origin_set_name, rib_name, is_alone, is_of_group, group_names}

@@ -4,7 +4,9 @@ use Rattle.std.specs.List.{list_any}
 use Rattle.std.specs.Option.{option_map_or}
 use Rattle.net_base.specs.declared.conf.ConfFault.{ConfFault}
 use Rattle.conf_tree.specs.declared.token.Token.{Token}
-use Rattle.conf_tree.specs.Macros.{◌>>=◌, Macros, Expanded, is_word, asked, given_for, unchanged, replaced, expanded}
+use Rattle.conf_tree.specs.Faults.{◌>>=◌}
+use Rattle.conf_tree.specs.Kinds.{is_word}
+use Rattle.conf_tree.specs.Macros.{Macros, Expanded, asked, given_for, unchanged, replaced, expanded}
 use Rattle.conf_lex.specs.Asking.{asks_for_macro}
 
 stays_by : (macros : Macros) (size : ℕ) (token : Token) (word : Bool) (ask : Option (List ℕ × List ℕ)) → (word && is_some ask) ≡ false → cond word (option_map_or (given_for macros size token) ask (Ok (unchanged size token))) (Ok (unchanged size token)) ≡ Ok (unchanged size token)

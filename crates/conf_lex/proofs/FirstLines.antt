@@ -5,7 +5,8 @@ use Rattle.std.proofs.lemmas.List.Elements.{All-nil, All-cons}
 use Rattle.net_base.specs.declared.conf.ConfFault.{ConfFault}
 use Rattle.conf_tree.specs.declared.token.Token.{Token}
 use Rattle.conf_tree.specs.Joined.{Seen}
-use Rattle.conf_tree.specs.Cuts.{Rules, Cut, Line, first_cut, nothing_left, is_line_end, in_front_of, line_in, line_by, first_line}
+use Rattle.conf_tree.specs.Kinds.{is_line_end}
+use Rattle.conf_tree.specs.Cuts.{Rules, Cut, Line, first_cut, nothing_left, in_front_of, line_in, line_by, first_line}
 use Rattle.conf_lex.specs.Lines.{LineIs}
 use Rattle.conf_lex.proofs.Takes.{Takes, more_takes, first_takes, first_of_none}
 

@@ -4,7 +4,8 @@ use Rattle.net_base.specs.declared.conf.ConfFault.{ConfFault}
 use Rattle.conf_tree.specs.declared.token.Token.{Token}
 use Rattle.conf_tree.specs.Joined.{Seen}
 use Rattle.conf_tree.specs.Cuts.{Rules, Cut, Line, first_line}
-use Rattle.conf_tree.specs.Macros.{◌>>=◌, Macros, Expanded, expanded, defined}
+use Rattle.conf_tree.specs.Faults.{◌>>=◌}
+use Rattle.conf_tree.specs.Macros.{Macros, Expanded, expanded, defined}
 use Rattle.conf_tree.specs.Tokens.{LineRead, line_with, line_read_of, line_read, lines_in, lines_read}
 use Rattle.net_base.specs.declared.conf.ConfError.{ConfError}
 use Rattle.net_base.specs.declared.conf.ConfError.TheVariants.{Fault, NoMemory}

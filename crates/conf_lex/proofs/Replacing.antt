@@ -4,7 +4,8 @@ use Rattle.net_base.specs.declared.conf.ConfFault.{ConfFault}
 use Rattle.net_base.specs.declared.conf.ConfError.{ConfError}
 use Rattle.net_base.specs.declared.conf.ConfError.TheVariants.{Fault, NoMemory}
 use Rattle.conf_tree.specs.declared.token.Token.{Token}
-use Rattle.conf_tree.specs.Macros.{◌>>=◌, Macros, Expanded, replaced, expanded}
+use Rattle.conf_tree.specs.Faults.{◌>>=◌}
+use Rattle.conf_tree.specs.Macros.{Macros, Expanded, replaced, expanded}
 use Rattle.conf_lex.specs.Gives.{Fails}
 use Rattle.conf_lex.specs.Puts.{put_behind}
 

@@ -2,7 +2,8 @@
 use Rattle.std.specs.Prelude.{◌≡◌, ℕ, Bool, ◌&&◌, List, is_some, Result, Ok, Err}
 use Rattle.net_base.specs.declared.conf.ConfError.{ConfError}
 use Rattle.conf_tree.specs.declared.token.Token.{Token}
-use Rattle.conf_tree.specs.Macros.{Macros, is_word, asked, expanded, defined}
+use Rattle.conf_tree.specs.Kinds.{is_word}
+use Rattle.conf_tree.specs.Macros.{Macros, asked, expanded, defined}
 use Rattle.conf_lex.specs.declared.definition.Replaced.{Replaced}
 use Rattle.conf_lex.specs.Gives.{Fails}
 use Rattle.conf_lex.specs.Puts.{expanded_of}

@@ -3,7 +3,7 @@
 ghost use Rattle.std.specs.Prelude.{◌≡◌};
 ghost use Rattle.conf_tree.specs.Joined as joined_lines;
 ghost use Rattle.conf_tree.specs.Cuts as cuts;
-ghost use Rattle.conf_tree.specs.Macros as macros;
+ghost use Rattle.conf_tree.specs.Names.{is_name_byte};
 
 /// A blank or a tab.
 pub(crate) fn is_blank(byte: u8) -> bool
@@ -33,16 +33,9 @@ pub(crate) fn is_compare(byte: u8) -> bool
     byte == b'<' || byte == b'>'
 }
 
-/// A letter.
-pub(crate) fn is_letter(byte: u8) -> bool
-    ensures { result ≡ macros.is_letter byte }
-{
-    (b'A' <= byte && byte <= b'Z') || (b'a' <= byte && byte <= b'z')
-}
-
-/// A byte of a NAME behind its first letter.
+/// A byte of a name behind its first letter.
 pub(crate) fn is_name_byte(byte: u8) -> bool
-    ensures { result ≡ macros.is_name_byte byte }
+    ensures { result ≡ is_name_byte byte }
 {
-    is_letter(byte) || (b'0' <= byte && byte <= b'9') || byte == b'_' || byte == b'-'
+    byte.is_ascii_alphanumeric() || byte == b'_' || byte == b'-'
 }

@@ -2,6 +2,7 @@
 
 ghost use Rattle.std.specs.Prelude.{◌≡◌, ◌+◌, ◌≤◌, ◌++◌, ◌∷◌, [], true, false, length, nat_le, OnOk, IfOk, MatchOption, map};
 ghost use Rattle.net_base.specs.declared.conf.ConfError.TheVariants.{Fault};
+ghost use Rattle.conf_tree.specs.Kinds.{is_word};
 ghost use Rattle.conf_tree.specs.Macros as replacing;
 ghost use Rattle.conf_lex.specs.Puts.{Puts, Expands, given_if, glued_word};
 ghost use Rattle.conf_lex.specs.Tables.{macros_of};
@@ -34,7 +35,7 @@ fn fault_at(word: &Token, kind: ConfKind) -> ConfError
 
 /// Whether a token is a word.
 pub(crate) fn is_word(kind: TokenKind) -> bool
-    ensures { result ≡ replacing.is_word kind }
+    ensures { result ≡ is_word kind }
 {
     match kind {
         TokenKind::Word => true,

@@ -1,6 +1,7 @@
 //! The tokens of one joined line, before macros are looked at.
 
 ghost use Rattle.std.specs.Prelude.{◌≡◌, ◌≤◌, length, IfOk};
+ghost use Rattle.conf_tree.specs.Kinds.{is_line_end};
 ghost use Rattle.conf_tree.specs.Cuts as cuts;
 ghost use Rattle.conf_lex.specs.Views.{rules_of};
 ghost use Rattle.conf_lex.specs.Lines.{LineIs, EndIs};
@@ -21,7 +22,7 @@ pub(crate) struct Line {
 
 // Whether a token ends a line.
 fn is_line_end(kind: TokenKind) -> bool
-    ensures { result ≡ cuts.is_line_end kind }
+    ensures { result ≡ is_line_end kind }
 {
     match kind {
         TokenKind::Word | TokenKind::Quoted | TokenKind::Mark => false,

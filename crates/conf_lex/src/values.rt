@@ -2,6 +2,7 @@
 
 ghost use Rattle.std.specs.Prelude.{◌≡◌, ◌++◌, ◌∷◌, drop, map, IfOk};
 ghost use Rattle.std.specs.List.{list_all};
+ghost use Rattle.conf_tree.specs.Kinds.{is_word, is_quoted, is_mark};
 ghost use Rattle.conf_tree.specs.Macros as macros;
 ghost use Rattle.conf_lex.specs.Short.{AllShort};
 
@@ -13,7 +14,7 @@ use net_base::{Bytes, Items, NoMemory};
 use std::alloc::Global;
 
 fn is_quoted(kind: TokenKind) -> bool
-    ensures { result ≡ macros.is_quoted kind }
+    ensures { result ≡ is_quoted kind }
 {
     match kind {
         TokenKind::Quoted => true,
@@ -22,7 +23,7 @@ fn is_quoted(kind: TokenKind) -> bool
 }
 
 fn is_mark(kind: TokenKind) -> bool
-    ensures { result ≡ macros.is_mark_kind kind }
+    ensures { result ≡ is_mark kind }
 {
     match kind {
         TokenKind::Mark => true,
@@ -42,7 +43,7 @@ fn begins_definition(name: &Token, equals: &Token) -> bool
 
 // Whether tokens are words alone.
 fn are_words(tokens: &[Token]) -> bool
-    ensures { result ≡ list_all (λ token. macros.is_word token.kind) tokens.now }
+    ensures { result ≡ list_all (λ token. is_word token.kind) tokens.now }
 {
     tokens.iter().all(|token| is_word(token.kind))
 }

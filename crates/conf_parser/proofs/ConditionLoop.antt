@@ -5,7 +5,8 @@ use Rattle.net_base.specs.declared.conf.ConfFault.{ConfFault}
 use Rattle.net_base.specs.declared.conf.ConfKind.TheVariants.{UnexpectedWord}
 use Rattle.conf_tree.specs.declared.token.Token.{Token}
 use Rattle.conf_tree.specs.declared.draft.ConditionBlock.{ConditionBlock}
-use Rattle.conf_tree.specs.Reading.{◌>>=◌, Reading, line_of}
+use Rattle.conf_tree.specs.Faults.{◌>>=◌}
+use Rattle.conf_tree.specs.Reading.{Reading, line_of}
 use Rattle.conf_tree.specs.RuleReading.{Lists, condition_at, conditions_at, ends_conditions}
 use Rattle.conf_parser.specs.Fronts.{behind_front}
 

@@ -7,7 +7,8 @@ use Rattle.net_base.specs.declared.conf.ConfKind.TheVariants.{UnexpectedWord}
 use Rattle.conf_tree.specs.declared.token.Token.{Token}
 use Rattle.conf_tree.specs.declared.draft.OptionLine.{OptionLine}
 use Rattle.conf_tree.specs.declared.draft.NeighbourBlock.{NeighbourBlock}
-use Rattle.conf_tree.specs.Reading.{◌>>=◌, Reading, line_of, behind, mark_is, word_is}
+use Rattle.conf_tree.specs.Faults.{◌>>=◌}
+use Rattle.conf_tree.specs.Reading.{Reading, line_of, behind, mark_is, word_is}
 use Rattle.conf_tree.specs.NeighbourReading.{Members, with_option, with_neighbour, after_line_ends, option_line_at, neighbour_line_at, group_members_at}
 use Rattle.conf_parser.specs.Fronts.{behind_both}
 

@@ -5,7 +5,8 @@ use Rattle.std.proofs.lemmas.List.{append-nil}
 use Rattle.net_base.specs.declared.conf.ConfFault.{ConfFault}
 use Rattle.net_base.specs.declared.conf.ConfKind.TheVariants.{UnexpectedWord}
 use Rattle.conf_tree.specs.declared.token.Token.{Token}
-use Rattle.conf_tree.specs.Reading.{◌>>=◌, Reading, Member, line_of, behind, mark_is, after_separators, members_at}
+use Rattle.conf_tree.specs.Faults.{◌>>=◌}
+use Rattle.conf_tree.specs.Reading.{Reading, Member, line_of, behind, mark_is, after_separators, members_at}
 use Rattle.conf_parser.specs.Fronts.{behind_front}
 
 regroup : {A : Type 0} (front : List A) (x : A) (read : Reading (List A)) → behind_front front (read >>= λ others. Ok (x ∷ others.0, others.1)) ≡ behind_front (front ++ x ∷ []) read

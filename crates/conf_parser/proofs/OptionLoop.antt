@@ -6,7 +6,8 @@ use Rattle.net_base.specs.declared.conf.ConfFault.{ConfFault}
 use Rattle.net_base.specs.declared.conf.ConfKind.TheVariants.{UnexpectedWord}
 use Rattle.conf_tree.specs.declared.token.Token.{Token}
 use Rattle.conf_tree.specs.declared.draft.OptionLine.{OptionLine}
-use Rattle.conf_tree.specs.Reading.{◌>>=◌, Reading, line_of, behind, mark_is}
+use Rattle.conf_tree.specs.Faults.{◌>>=◌}
+use Rattle.conf_tree.specs.Reading.{Reading, line_of, behind, mark_is}
 use Rattle.conf_tree.specs.NeighbourReading.{after_line_ends, option_line_at, options_at}
 use Rattle.conf_parser.specs.Fronts.{behind_front}
 

@@ -4,7 +4,7 @@ use Rattle.std.proofs.lemmas.List.{append-nil}
 use Rattle.net_base.specs.declared.conf.ConfFault.{ConfFault}
 use Rattle.conf_tree.specs.declared.token.Token.{Token}
 use Rattle.conf_tree.specs.declared.draft.StatementLine.{StatementLine}
-use Rattle.conf_tree.specs.Reading.{◌>>=◌}
+use Rattle.conf_tree.specs.Faults.{◌>>=◌}
 use Rattle.conf_tree.specs.StatementReading.{Room, room_behind, after_empty_lines, statement_line_at, statements_at}
 use Rattle.conf_parser.specs.Fronts.{behind_statements}
 

@@ -4,9 +4,11 @@ ghost use Rattle.std.specs.Prelude.{◌≡◌, ◌&&◌, nat_le, option_copied, 
 ghost use Rattle.std.specs.List.{list_all};
 ghost use Rattle.std.specs.Option.{option_and_then};
 ghost use Rattle.conf_tree.specs.Gives.{Gives};
-ghost use Rattle.conf_tree.specs.Reading.{word_of, text_of, is_quoted};
+ghost use Rattle.conf_tree.specs.Kinds.{is_quoted};
+ghost use Rattle.conf_tree.specs.Names.{is_name_byte, is_name};
+ghost use Rattle.conf_tree.specs.Reading.{word_of, text_of};
 ghost use Rattle.conf_tree.specs.Values.{within, word_passes, word_text, before, past};
-ghost use Rattle.conf_tree.specs.Values.{is_name_byte, is_name, is_quoted_group_name, of_length, if_passes, or_else, most_name_bytes, most_quoted_bytes, name_at, group_name_at, quoted_at};
+ghost use Rattle.conf_tree.specs.Values.{is_quoted_group_name, of_length, if_passes, or_else, most_name_bytes, most_quoted_bytes, name_at, group_name_at, quoted_at};
 ghost use Rattle.conf_tree.specs.Values.{is_part, part_in, is_pair, is_triple, pair_of, two_parts, triple_of, well_known, named_community, unnamed_community_at, community_at, large_community_at, one_community, number_or_zero};
 
 use crate::reading::{behind, fault, quoted, unexpected, word};
@@ -34,7 +36,7 @@ fn all_name_bytes(text: &[u8]) -> bool
 }
 
 /// Whether a text has the form of a name: a letter, then letters, digits, `_` or `-`.
-#[tactic(auto, unfolding(conf_tree::specs::Values::is_name))]
+#[tactic(auto, unfolding(conf_tree::specs::Names::is_name))]
 pub fn is_name(text: &[u8]) -> bool
     ensures { result ≡ is_name text.now }
 {

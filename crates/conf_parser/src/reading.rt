@@ -2,10 +2,10 @@
 
 ghost use Rattle.std.specs.Prelude.{◌≡◌, option_copied, Ok, Err};
 ghost use Rattle.conf_tree.specs.Gives.{Gives};
-ghost use Rattle.conf_tree.specs.Reading.{line_of, behind, text_of, word_of, is_quoted, is_mark, word_is, word_in, mark_is, ends_line, keyword_at, mark_at, line_end_at, after_separators, is_separator};
+ghost use Rattle.conf_tree.specs.Kinds.{is_quoted, is_mark, is_line_end};
+ghost use Rattle.conf_tree.specs.Reading.{line_of, behind, text_of, word_of, word_is, word_in, mark_is, ends_line, keyword_at, mark_at, line_end_at, after_separators, is_separator};
 ghost use Rattle.std.specs.List.{list_any, prefix_len};
 ghost use Rattle.std.specs.Prelude.{length, ◌≤◌};
-ghost use Rattle.conf_tree.specs.Reading.{is_line_end};
 ghost use Rattle.conf_tree.specs.NeighbourReading.{after_line_ends};
 ghost use Rattle.conf_tree.specs.StatementReading.{after_empty_lines};
 

@@ -5,7 +5,8 @@ ghost use Rattle.std.specs.List.{position_or_len};
 ghost use Rattle.std.specs.Option.{option_and_then};
 ghost use Rattle.net_base.specs.Number.{is_number};
 ghost use Rattle.conf_tree.specs.Gives.{Gives};
-ghost use Rattle.conf_tree.specs.Reading.{word_of, text_of, is_quoted};
+ghost use Rattle.conf_tree.specs.Kinds.{is_quoted};
+ghost use Rattle.conf_tree.specs.Reading.{word_of, text_of};
 ghost use Rattle.conf_tree.specs.Values.{within, word_passes, word_text, number_at, before, past, are_joined, as_number_at, hold_at, yes_no_at, address_of, address_at, if_v4, v4_at, prefix_of_word, prefix_at};
 ghost use Rattle.conf_tree.specs.Values.{range, width, bound_at, glued_bounds_at, bounds_at, at_least_at, at_most_at, prefixlen_at, lengths_at, both_bounds};
 

@@ -6,7 +6,8 @@ use Rattle.conf_tree.specs.declared.token.Token.{Token}
 use Rattle.conf_tree.specs.declared.token.TokenKind.{TokenKind}
 use Rattle.conf_tree.specs.declared.token.TokenKind.TheVariants.{Word, Quoted, Mark, LineEnd}
 use Rattle.conf_tree.specs.Joined.{Seen, joined_from, is_lf, line_behind}
-use Rattle.conf_tree.specs.Cuts.{is_blank, in_word, first_cut, first_line, in_front_of, is_line_end}
+use Rattle.conf_tree.specs.Kinds.{is_line_end}
+use Rattle.conf_tree.specs.Cuts.{is_blank, in_word, first_cut, first_line, in_front_of}
 use Rattle.conf_lex.proofs.Joining.{byte_stays}
 use Rattle.conf_lex.proofs.FirstLines.{line_on, line_ended}
 use Rattle.conf_round.proofs.Plain.{IsPlain, ArePlain}

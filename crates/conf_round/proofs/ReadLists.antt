@@ -7,7 +7,8 @@ use Rattle.conf_tree.specs.declared.token.TokenKind.TheVariants.{Word, Quoted, M
 use Rattle.conf_tree.specs.declared.draft.SetPlace.{SetPlace}
 use Rattle.conf_tree.specs.declared.rule.Item.{Item}
 use Rattle.conf_tree.specs.declared.rule.Item.TheVariants as items
-use Rattle.conf_tree.specs.Reading.{Member, is_word, is_mark, is_separator, after_separators, text_of, mark_is, behind, members_at, list_at, full_list_at}
+use Rattle.conf_tree.specs.Kinds.{is_word, is_mark}
+use Rattle.conf_tree.specs.Reading.{Member, is_separator, after_separators, text_of, mark_is, behind, members_at, list_at, full_list_at}
 use Rattle.conf_tree.specs.ItemReading.{item_at}
 use Rattle.conf_kept.specs.Readable.{Each, IsItem}
 use Rattle.conf_round.proofs.Pieces.{Piece, piece_token, line_tokens, finish, line_finish}

@@ -17,7 +17,8 @@ use Rattle.conf_tree.specs.declared.draft.NeighbourOption.{NeighbourOption}
 use Rattle.conf_tree.specs.declared.draft.OptionLine.{OptionLine}
 use Rattle.conf_tree.specs.declared.draft.NeighbourBlock.{NeighbourBlock}
 use Rattle.conf_tree.specs.declared.draft.Statement.TheVariants as says
-use Rattle.conf_tree.specs.Reading.{is_word, is_line_end, line_of, text_of, word_is, mark_is, mark_at, ends_line, unless_full}
+use Rattle.conf_tree.specs.Kinds.{is_word, is_line_end}
+use Rattle.conf_tree.specs.Reading.{line_of, text_of, word_is, mark_is, mark_at, ends_line, unless_full}
 use Rattle.conf_tree.specs.Values.{prefix_of_word}
 use Rattle.conf_tree.specs.NeighbourReading.{after_line_ends, separated_at, option_line_at, options_at, neighbour_body_at, neighbour_at, neighbour_line_at, group_members_at, group_at}
 use Rattle.conf_tree.specs.StatementReading.{Room, neighbour_statement_at, group_statement_at, peer_word_at, set_word_at, engine_word_at, statement_at}

@@ -6,7 +6,8 @@ use Rattle.conf_tree.specs.declared.token.TokenKind.{TokenKind}
 use Rattle.conf_tree.specs.declared.token.TokenKind.TheVariants.{Word, Quoted, Mark, LineEnd}
 use Rattle.conf_tree.specs.declared.draft.Statement.{Statement}
 use Rattle.conf_tree.specs.declared.draft.StatementLine.{StatementLine}
-use Rattle.conf_tree.specs.Reading.{is_word, is_line_end, line_of, ends_line, line_end_at}
+use Rattle.conf_tree.specs.Kinds.{is_word, is_line_end}
+use Rattle.conf_tree.specs.Reading.{line_of, ends_line, line_end_at}
 use Rattle.conf_tree.specs.StatementReading.{Room, all_room, room_behind, statement_at, statement_line_at, after_empty_lines, statements_at, draft_of}
 use Rattle.conf_round.proofs.Pieces.{Piece, line_tokens, line_finish, end_token}
 use Rattle.conf_round.proofs.Texts.{last_token, lines_tokens}

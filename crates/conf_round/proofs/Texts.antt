@@ -11,7 +11,10 @@ use Rattle.conf_tree.specs.declared.token.TokenKind.{TokenKind}
 use Rattle.conf_tree.specs.declared.token.TokenKind.TheVariants.{Word, Quoted, Mark, LineEnd}
 use Rattle.conf_tree.specs.Joined.{Seen, joined_from, joined}
 use Rattle.conf_tree.specs.Cuts.{is_blank, is_printable, is_mark, Rules, in_blanks, behind_blanks, behind_comment, first_cut, first_cut_at, cut_at, bad_place, is_cut, rules_of}
-use Rattle.conf_tree.specs.Macros.{◌>>=◌, Macros, no_macros, Expanded, expanded, replaced, unchanged, given_for, asked, is_word, is_name, is_mark_kind, defined}
+use Rattle.conf_tree.specs.Faults.{◌>>=◌}
+use Rattle.conf_tree.specs.Kinds as kinds
+use Rattle.conf_tree.specs.Names.{is_name}
+use Rattle.conf_tree.specs.Macros.{Macros, no_macros, Expanded, expanded, replaced, unchanged, given_for, asked, defined}
 use Rattle.conf_tree.specs.Tokens.{LineRead, line_with, line_read, line_read_of, lines_in, lines_read, tokens}
 use Rattle.conf_lex.specs.Reading.{put_read, put_tokens}
 use Rattle.conf_lex.proofs.Runs.{behind_off}
@@ -49,7 +52,7 @@ expanded_same line place (p ∷ ps) rest good =
     (replaced_same line _ (finish place p) p.kind p.text good.1)
     ∙ ap (λ (rest : Result Expanded ConfFault). rest >>= (λ more. Ok (record { tokens = (piece_token line place p ∷ []) ++ more.tokens; size = more.size }))) (expanded_same line (finish place p) ps rest good.3)
 
-equals_none : (kind : TokenKind) (text : List ℕ) → IsText kind text → (is_mark_kind kind && bytes_eq text (61 ∷ [])) ≡ false
+equals_none : (kind : TokenKind) (text : List ℕ) → IsText kind text → (kinds.is_mark kind && bytes_eq text (61 ∷ [])) ≡ false
 equals_none Word text t = refl
 equals_none Quoted text t = refl
 equals_none Mark [] t = absurd t
@@ -63,7 +66,7 @@ not_begun front back e = ap (λ (b : Bool). front && b) e ∙ and_false front
 defines_none : (line place : ℕ) (ps : List Piece) (rest : List ℕ) (all : List Token) → IsLine ps rest → defined (line_tokens line place ps) all ≡ None
 defines_none line place [] rest all good = refl
 defines_none line place (p ∷ []) rest all good = refl
-defines_none line place (p ∷ q ∷ ps) rest all good = rw (not_begun (is_word p.kind && is_name p.text) (is_mark_kind q.kind && bytes_eq q.text (61 ∷ [])) (equals_none q.kind q.text good.3.1)) refl
+defines_none line place (p ∷ q ∷ ps) rest all good = rw (not_begun (kinds.is_word p.kind && is_name p.text) (kinds.is_mark q.kind && bytes_eq q.text (61 ∷ [])) (equals_none q.kind q.text good.3.1)) refl
 
 -- ---- one line
 

@@ -19,7 +19,7 @@ use Rattle.net_base.proofs.Bits.{octets_of_bits-small, groups_of_bits-small}
 use Rattle.net_base.proofs.AddrText.{read_addr_complete, addr_text-spells_only}
 use Rattle.net_base.proofs.PrefixText.{read_prefix_complete, prefix_text-spells_only}
 use Rattle.conf_tree.specs.declared.token.TokenKind.TheVariants.{Word}
-use Rattle.conf_tree.specs.Values.{is_name, is_name_byte}
+use Rattle.conf_tree.specs.Names.{is_name_byte, is_name}
 use Rattle.conf_round.proofs.Plain.{IsPlain, ArePlain, IsInRanges, plain, digit, both_plain, all_plain, is_in_ranges, tested_plain}
 use Rattle.conf_kept.proofs.Both.{and_first, and_second}
 use Rattle.conf_round.proofs.Pieces.{IsText}

@@ -7,8 +7,8 @@ use Rattle.conf_tree.specs.declared.token.Token.{Token}
 use Rattle.conf_tree.specs.declared.token.TokenKind.{TokenKind}
 use Rattle.conf_tree.specs.declared.token.TokenKind.TheVariants.{Word, Quoted, Mark, LineEnd}
 use Rattle.conf_tree.specs.Joined.{Seen, is_lf, joined}
-use Rattle.conf_tree.specs.Cuts.{Rules, is_quote, mark_size, is_word_byte, in_blanks, in_word, in_quotes, run, behind, bytes_of, token_at, fault_at, Cut, closed_by, closed, quoted_cut, mark_cut, end_in_front, word_ended, word_cut, cut_by, cut_at, behind_comment, behind_blanks, first_cut_at, first_cut, Line, is_line_end, in_front_of, line_by, line_in, first_line, plain_rules, split}
-use Rattle.conf_tree.specs.Macros.{is_word}
+use Rattle.conf_tree.specs.Kinds.{is_word, is_line_end}
+use Rattle.conf_tree.specs.Cuts.{Rules, is_quote, mark_size, is_word_byte, in_blanks, in_word, in_quotes, run, behind, bytes_of, token_at, fault_at, Cut, closed_by, closed, quoted_cut, mark_cut, end_in_front, word_ended, word_cut, cut_by, cut_at, behind_comment, behind_blanks, first_cut_at, first_cut, Line, in_front_of, line_by, line_in, first_line, plain_rules, split}
 use Rattle.conf_kept.specs.Readable.{Each, can_be_quoted}
 use Rattle.conf_lex.proofs.Takes.{Takes, first_takes}
 use Rattle.conf_sound.proofs.CutForms.{CutsWell, NoQuotes, none_behind, none_comment, none_cut, joined_none}

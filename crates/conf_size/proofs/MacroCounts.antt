@@ -9,7 +9,10 @@ use Rattle.net_base.specs.declared.conf.ConfFault.{ConfFault}
 use Rattle.net_base.specs.declared.conf.ConfKind.TheVariants.{TooLong, UnknownMacro}
 use Rattle.conf_tree.specs.declared.token.Token.{Token}
 use Rattle.conf_tree.specs.Cuts.{split}
-use Rattle.conf_tree.specs.Macros.{◌>>=◌, Macros, with_macro, is_name, followed, Expanded, most_replaced, text_size, moved, given, given_for, asked, is_word, is_quoted, is_mark_kind, unchanged, replaced, expanded, quoted_value, value_of, begins_definition, defined}
+use Rattle.conf_tree.specs.Faults.{◌>>=◌}
+use Rattle.conf_tree.specs.Kinds.{is_word, is_quoted, is_mark}
+use Rattle.conf_tree.specs.Names.{is_name}
+use Rattle.conf_tree.specs.Macros.{Macros, with_macro, followed, Expanded, most_replaced, text_size, moved, given, given_for, asked, unchanged, replaced, expanded, quoted_value, value_of, begins_definition, defined}
 use Rattle.conf_kept.specs.Readable.{Each, IfThere}
 use Rattle.conf_kept.proofs.Both.{and_first, and_second}
 use Rattle.conf_sound.proofs.ChoiceSizes.{length_mapped}
@@ -17,7 +20,6 @@ use Rattle.conf_sound.proofs.Finds.{AreGood}
 use Rattle.conf_sound.proofs.Lists.{each_map}
 use Rattle.conf_kept.proofs.Each.{each_append}
 use Rattle.conf_sound.proofs.StatementForms.{Gives}
-use Rattle.conf_sound.proofs.TokenForms.{quoted_kind}
 use Rattle.conf_size.proofs.CutCounts.{HasBytes, IsFilled, split_full}
 
 -- each of them does
@@ -120,7 +122,7 @@ quoted_value_full [] g = tt
 quoted_value_full (token ∷ []) g = by (is_quoted token.kind) refl
   where
     by : (b : Bool) → is_quoted token.kind ≡ b → IfThere HaveBytes (cond b (Some (split token.text)) None)
-    by true e = split_full token.text (g.0.inside (quoted_kind token.kind e))
+    by true e = split_full token.text (g.0.inside e)
     by false e = tt
 quoted_value_full (token ∷ another ∷ others) g = tt
 
@@ -159,10 +161,10 @@ defined_full (name ∷ equals ∷ value) instead g h k = by (begins_definition n
 
     by : (b : Bool) → begins_definition name equals ≡ b → IfThere IsFullDefinition (cond b (option_map (λ found. (name.text, found)) (value_of value (drop 2 instead))) None)
     by true e =
-        let front = and_first (is_word name.kind && is_name name.text) (is_mark_kind equals.kind && bytes_eq equals.text (61 ∷ [])) e in
-        let back = and_second (is_word name.kind && is_name name.text) (is_mark_kind equals.kind && bytes_eq equals.text (61 ∷ [])) e in
+        let front = and_first (is_word name.kind && is_name name.text) (is_mark equals.kind && bytes_eq equals.text (61 ∷ [])) e in
+        let back = and_second (is_word name.kind && is_name name.text) (is_mark equals.kind && bytes_eq equals.text (61 ∷ [])) e in
         let first : HasBytes name = h.0 (and_first (is_word name.kind) (is_name name.text) front) in
-        let second : HasBytes equals = equals_full equals.text (and_second (is_mark_kind equals.kind) (bytes_eq equals.text (61 ∷ [])) back) in
+        let second : HasBytes equals = equals_full equals.text (and_second (is_mark equals.kind) (bytes_eq equals.text (61 ∷ [])) back) in
         valued (value_of value (drop 2 instead)) (value_of_full value (drop 2 instead) g.1.1 h.1.1 (λ rest. drop_full 2 instead (k (first, (second, rest)))))
     by false e = tt
 

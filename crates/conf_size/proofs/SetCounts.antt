@@ -10,7 +10,8 @@ use Rattle.conf_tree.specs.declared.draft.Statement.{Statement}
 use Rattle.conf_tree.specs.declared.draft.Statement.TheVariants as says
 use Rattle.conf_tree.specs.declared.draft.StatementLine.{StatementLine}
 use Rattle.conf_tree.specs.declared.token.Token.{Token}
-use Rattle.conf_tree.specs.Reading.{◌>>=◌, Reading}
+use Rattle.conf_tree.specs.Faults.{◌>>=◌}
+use Rattle.conf_tree.specs.Reading.{Reading}
 use Rattle.conf_tree.specs.Said.{said, prefix_set_of, as_set_of, origin_set_of}
 use Rattle.conf_tree.specs.Flat.{text_cmp, range_cmp, roa_cmp, in_order, by_key, prefix_sets_of, as_sets_of, origin_sets_of, frame_of, flat}
 use Rattle.conf_tree.specs.Tokens.{tokens}

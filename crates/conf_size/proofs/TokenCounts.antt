@@ -5,7 +5,8 @@ use Rattle.net_base.specs.declared.conf.ConfFault.{ConfFault}
 use Rattle.conf_tree.specs.declared.token.Token.{Token}
 use Rattle.conf_tree.specs.Joined.{Seen, joined}
 use Rattle.conf_tree.specs.Cuts.{is_cut, bad_place, Cut, Line, first_line}
-use Rattle.conf_tree.specs.Macros.{◌>>=◌, Macros, no_macros, Expanded, most_replaced, expanded, defined}
+use Rattle.conf_tree.specs.Faults.{◌>>=◌}
+use Rattle.conf_tree.specs.Macros.{Macros, no_macros, Expanded, most_replaced, expanded, defined}
 use Rattle.conf_tree.specs.Tokens.{LineRead, line_with, line_read, lines_in, tokens}
 use Rattle.conf_tree.specs.Language.{most_text_bytes}
 use Rattle.conf_kept.specs.Readable.{Each, IfThere}

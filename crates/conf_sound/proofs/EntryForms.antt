@@ -3,7 +3,8 @@ use Rattle.std.proofs.Common.{List, codes, Some, None, Ok, arith}
 use Rattle.net_base.specs.declared.conf.Counted.TheVariants as counted
 use Rattle.net_base.specs.declared.prefix.Prefix.{Prefix}
 use Rattle.conf_tree.specs.declared.token.Token.{Token}
-use Rattle.conf_tree.specs.Reading.{◌>>=◌, Reading, behind, word_is}
+use Rattle.conf_tree.specs.Faults.{◌>>=◌}
+use Rattle.conf_tree.specs.Reading.{Reading, behind, word_is}
 use Rattle.conf_tree.specs.Values.{width}
 use Rattle.conf_tree.specs.StatementReading.{optional_table_at, optional_port_at, entry_at, prefix_entry_at, number_entry_at, optional_maxlen_at, source_at, authorization_at, counted_authorization_at, roa_entry_at, named_brace_at}
 use Rattle.conf_kept.specs.Readable.{IfThere, IsName, IsWithin, IsRange, IsRoa, IsAs, IsLength}

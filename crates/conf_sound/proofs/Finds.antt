@@ -3,7 +3,9 @@ use Rattle.std.proofs.Common.{◌≡◌, Bool, true, false, cond, List, [], ◌�
 use Rattle.std.specs.Str.{IsUtf8}
 use Rattle.net_base.specs.declared.conf.ConfFault.{ConfFault}
 use Rattle.conf_tree.specs.declared.token.Token.{Token}
-use Rattle.conf_tree.specs.Reading.{◌>>=◌, Reading, behind, is_quoted}
+use Rattle.conf_tree.specs.Faults.{◌>>=◌}
+use Rattle.conf_tree.specs.Kinds.{is_quoted}
+use Rattle.conf_tree.specs.Reading.{Reading, behind}
 use Rattle.conf_kept.specs.Readable.{Each, IfThere, can_be_quoted}
 
 -- the text between quotes holds no quote and no line end, and is UTF-8

@@ -6,7 +6,7 @@ use Rattle.net_base.specs.declared.conf.ConfFault.{ConfFault}
 use Rattle.conf_tree.specs.declared.conf.Conf.{Conf}
 use Rattle.conf_tree.specs.declared.draft.Draft.{Draft}
 use Rattle.conf_tree.specs.declared.draft.StatementLine.{StatementLine}
-use Rattle.conf_tree.specs.Reading.{◌>>=◌}
+use Rattle.conf_tree.specs.Faults.{◌>>=◌}
 use Rattle.conf_tree.specs.Flat.{placed, frame_of, flat}
 use Rattle.conf_tree.specs.Checks.{missing_global, double_name, double_neighbour, without_as, unknown_name, family_mismatch, first_fault, checked}
 use Rattle.conf_tree.specs.Language.{draft_within, configuration_within}

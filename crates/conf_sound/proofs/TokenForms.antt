@@ -6,12 +6,11 @@ use Rattle.std.specs.Option.{option_map_or}
 use Rattle.net_base.specs.declared.conf.ConfFault.{ConfFault}
 use Rattle.net_base.specs.declared.conf.ConfKind.TheVariants.{TooLong, UnknownMacro}
 use Rattle.conf_tree.specs.declared.token.Token.{Token}
-use Rattle.conf_tree.specs.declared.token.TokenKind.{TokenKind}
-use Rattle.conf_tree.specs.declared.token.TokenKind.TheVariants.{Word, Quoted, Mark, LineEnd}
 use Rattle.conf_tree.specs.Joined.{Seen, joined}
 use Rattle.conf_tree.specs.Cuts.{is_cut, bad_place, Cut, Line, first_line, split}
-use Rattle.conf_tree.specs.Macros.{◌>>=◌, Macros, no_macros, with_macro, followed, Expanded, most_replaced, text_size, moved, given, given_for, asked, is_word, is_quoted, unchanged, replaced, expanded, quoted_value, value_of, begins_definition, defined}
-use Rattle.conf_tree.specs.Reading as reading
+use Rattle.conf_tree.specs.Faults.{◌>>=◌}
+use Rattle.conf_tree.specs.Kinds.{is_word, is_quoted}
+use Rattle.conf_tree.specs.Macros.{Macros, no_macros, with_macro, followed, Expanded, most_replaced, text_size, moved, given, given_for, asked, unchanged, replaced, expanded, quoted_value, value_of, begins_definition, defined}
 use Rattle.conf_tree.specs.Tokens.{LineRead, line_with, line_read, lines_in, tokens}
 use Rattle.conf_kept.specs.Readable.{IfThere}
 use Rattle.conf_sound.proofs.Finds.{IsGood, AreGood}
@@ -88,18 +87,12 @@ expanded_good macros size (token ∷ found) h g = then_good macros found (replac
 
 -- ---- what a line defines
 
-pub quoted_kind : (kind : TokenKind) → is_quoted kind ≡ true → reading.is_quoted kind ≡ true
-quoted_kind Word e = e
-quoted_kind Quoted e = e
-quoted_kind Mark e = e
-quoted_kind LineEnd e = e
-
 quoted_value_good : (found : List Token) → AreGood found → IfThere AreGood (quoted_value found)
 quoted_value_good [] g = tt
 quoted_value_good (token ∷ []) g = by (is_quoted token.kind) refl
   where
     by : (b : Bool) → is_quoted token.kind ≡ b → IfThere AreGood (cond b (Some (split token.text)) None)
-    by true e = split_form token.text (g.0.inside (quoted_kind token.kind e))
+    by true e = split_form token.text (g.0.inside e)
     by false e = tt
 quoted_value_good (token ∷ another ∷ others) g = tt
 

@@ -2,7 +2,7 @@
 use Rattle.std.proofs.Common.{◌≡◌, ℕ, List, Result, Ok, Err, subst}
 use Rattle.net_base.specs.declared.conf.ConfFault.{ConfFault}
 use Rattle.conf_tree.specs.declared.conf.Conf.{Conf}
-use Rattle.conf_tree.specs.Reading.{◌>>=◌}
+use Rattle.conf_tree.specs.Faults.{◌>>=◌}
 use Rattle.conf_tree.specs.Tokens.{tokens}
 use Rattle.conf_tree.specs.StatementReading.{draft_of}
 use Rattle.conf_tree.specs.Checks.{checked}

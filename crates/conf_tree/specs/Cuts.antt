@@ -9,6 +9,7 @@ use Rattle.net_base.specs.declared.conf.ConfKind.TheVariants.{TooLong, BadByte, 
 use Rattle.conf_tree.specs.declared.token.Token.{Token}
 use Rattle.conf_tree.specs.declared.token.TokenKind.{TokenKind}
 use Rattle.conf_tree.specs.declared.token.TokenKind.TheVariants.{Word, Quoted, Mark, LineEnd}
+use Rattle.conf_tree.specs.Kinds.{is_line_end}
 use Rattle.conf_tree.specs.Joined.{Seen, is_lf, joined}
 
 -- What the tokens of a text depend on beside its bytes.
@@ -179,12 +180,6 @@ first_cut rules rest = first_cut_at rules (behind_blanks rules rest)
 pub record Line : Type 0 where
   pub tokens : List Token
   pub end : Cut
-
-abbrev pub is_line_end : TokenKind → Bool
-is_line_end Word = false
-is_line_end Quoted = false
-is_line_end Mark = false
-is_line_end LineEnd = true
 
 abbrev pub in_front_of : List Token → Line → Line
 in_front_of tokens line = record { tokens = tokens ++ line.tokens; end = line.end }

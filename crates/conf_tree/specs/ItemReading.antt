@@ -12,7 +12,8 @@ use Rattle.conf_tree.specs.declared.rule.NextHop.TheVariants as hops
 use Rattle.conf_tree.specs.declared.rule.RouteOrigin.TheVariants as origins
 use Rattle.conf_tree.specs.declared.draft.SetPlace.{SetPlace}
 use Rattle.conf_tree.specs.declared.draft.SetPlace.TheVariants as places
-use Rattle.conf_tree.specs.Reading.{◌>>=◌, Reading, Member, fails, unexpected, behind, word_is, word_in, unless_full, one_or_list_at}
+use Rattle.conf_tree.specs.Faults.{◌>>=◌}
+use Rattle.conf_tree.specs.Reading.{Reading, Member, fails, unexpected, behind, word_is, word_in, unless_full, one_or_list_at}
 use Rattle.conf_tree.specs.Values.{number_at, in_range, within, word_passes, word_text, address_at, community_at, large_community_at, one_community, number_or_zero}
 
 -- ---- one kind of item after another, behind its word

@@ -2,13 +2,16 @@ pub mod Canonical
 pub mod Checks
 pub mod Cuts
 pub mod Empty
+pub mod Faults
 pub mod Flat
 pub mod Gives
 pub mod ItemReading
 pub mod Joined
+pub mod Kinds
 pub mod Language
 pub mod Macros
 pub mod Membership
+pub mod Names
 pub mod NeighbourReading
 pub mod Reading
 pub mod RuleReading

@@ -1,20 +1,17 @@
 -- Macros. `NAME = value` at the beginning of a line defines NAME, and `$NAME` is replaced by the tokens of the latest
 -- definition above it.
-use Rattle.std.specs.Prelude.{ℕ, ◌+◌, Bool, true, false, ◌||◌, ◌&&◌, ◌==◌, nat_le, if◌then◌else◌, List, [], ◌∷◌, ◌++◌, length, take, drop, map, sum_by, bytes_eq, Option, Some, None, option_map, option_and_then, Result, Ok, Err}
+use Rattle.std.specs.Prelude.{ℕ, ◌+◌, Bool, ◌&&◌, ◌==◌, nat_le, if◌then◌else◌, List, [], ◌∷◌, ◌++◌, length, take, drop, map, sum_by, bytes_eq, Option, Some, None, option_map, option_and_then, Result, Ok, Err}
 use Rattle.std.specs.Option.{option_map_or}
 use Rattle.std.specs.List.{list_all, prefix_len}
+use Rattle.std.specs.Char.{is_ascii_alphabetic}
 use Rattle.net_base.specs.declared.conf.ConfFault.{ConfFault}
 use Rattle.net_base.specs.declared.conf.ConfKind.TheVariants.{TooLong, UnknownMacro}
 use Rattle.conf_tree.specs.declared.token.Token.{Token}
-use Rattle.conf_tree.specs.declared.token.TokenKind.{TokenKind}
-use Rattle.conf_tree.specs.declared.token.TokenKind.TheVariants.{Word, Quoted, Mark, LineEnd}
+use Rattle.conf_tree.specs.declared.token.TokenKind.TheVariants.{Word}
+use Rattle.conf_tree.specs.Faults.{◌>>=◌}
+use Rattle.conf_tree.specs.Kinds.{is_word, is_quoted, is_mark}
+use Rattle.conf_tree.specs.Names.{is_name_byte, is_name}
 use Rattle.conf_tree.specs.Cuts.{split}
-
--- A `do` block goes on where each of its lines has no fault.
-infixl 10 ◌>>=◌
-abbrev pub ◌>>=◌ : {A B : Type 0} → Result A ConfFault → (A → Result B ConfFault) → Result B ConfFault
-(Ok x) >>= f = f x
-(Err fault) >>= f = Err fault
 
 -- What each NAME stands for at a line: the value of its latest definition above.
 abbrev pub Macros : Type 0
@@ -26,22 +23,11 @@ no_macros name = None
 abbrev pub with_macro : Macros → List ℕ → List Token → Macros
 with_macro macros name value other = if bytes_eq name other then Some value else macros other
 
--- A NAME is a letter and then letters, digits, `_` and `-`.
-abbrev pub is_letter : ℕ → Bool
-is_letter b = (nat_le 65 b && nat_le b 90) || (nat_le 97 b && nat_le b 122)
-
-abbrev pub is_name_byte : ℕ → Bool
-is_name_byte b = (is_letter b || (nat_le 48 b && nat_le b 57)) || ((b == 95) || (b == 45))
-
-abbrev pub is_name : List ℕ → Bool
-is_name [] = false
-is_name (b ∷ text) = is_letter b && list_all is_name_byte text
-
 -- The NAME behind the `$` with which a word begins, as long as can be, and the further bytes; None where there is none.
 abbrev pub asked_name : List ℕ → Option (List ℕ × List ℕ)
 asked_name [] = None
 asked_name (b ∷ text) =
-    if is_letter b then Some (b ∷ take (prefix_len is_name_byte text) text, drop (prefix_len is_name_byte text) text) else None
+    if is_ascii_alphabetic b then Some (b ∷ take (prefix_len is_name_byte text) text, drop (prefix_len is_name_byte text) text) else None
 
 abbrev pub asked : List ℕ → Option (List ℕ × List ℕ)
 asked [] = None
@@ -82,12 +68,6 @@ abbrev pub given_for : Macros → ℕ → Token → (List ℕ × List ℕ) → R
 given_for macros size word asking =
     option_map_or (given word size) (option_and_then (λ value. followed value asking.1) (macros asking.0)) (Err (record { line = word.line; kind = UnknownMacro }))
 
-abbrev pub is_word : TokenKind → Bool
-is_word Word = true
-is_word Quoted = false
-is_word Mark = false
-is_word LineEnd = false
-
 -- What a token gives. Only a word that begins with `$NAME` is replaced.
 abbrev pub unchanged : ℕ → Token → Expanded
 unchanged size token = record { tokens = token ∷ []; size = size }
@@ -105,18 +85,6 @@ expanded macros size (token ∷ tokens) = do
   more ← expanded macros here.size tokens
   Ok (record { tokens = here.tokens ++ more.tokens; size = more.size })
 
-abbrev pub is_quoted : TokenKind → Bool
-is_quoted Word = false
-is_quoted Quoted = true
-is_quoted Mark = false
-is_quoted LineEnd = false
-
-abbrev pub is_mark_kind : TokenKind → Bool
-is_mark_kind Word = false
-is_mark_kind Quoted = false
-is_mark_kind Mark = true
-is_mark_kind LineEnd = false
-
 -- The value that stands behind `NAME =`, also with its macros replaced: words or nothing, or one quoted text, which is
 -- split into tokens.
 abbrev pub quoted_value : List Token → Option (List Token)
@@ -130,7 +98,7 @@ value_of tokens replaced = if list_all (λ token. is_word token.kind) tokens the
 -- The NAME and the value that a line defines, of whose tokens the second list has the macros replaced; None where it
 -- isn't of that form.
 abbrev pub begins_definition : Token → Token → Bool
-begins_definition name equals = (is_word name.kind && is_name name.text) && (is_mark_kind equals.kind && bytes_eq equals.text (61 ∷ []))
+begins_definition name equals = (is_word name.kind && is_name name.text) && (is_mark equals.kind && bytes_eq equals.text (61 ∷ []))
 
 abbrev pub defined : List Token → List Token → Option (List ℕ × List Token)
 defined [] replaced = None

@@ -13,7 +13,9 @@ use Rattle.conf_tree.specs.declared.draft.OptionLine.{OptionLine}
 use Rattle.conf_tree.specs.declared.draft.NeighbourBlock.{NeighbourBlock}
 use Rattle.conf_tree.specs.declared.draft.GroupBlock.{GroupBlock}
 use Rattle.conf_tree.specs.declared.draft.SetPlace.TheVariants as places
-use Rattle.conf_tree.specs.Reading.{◌>>=◌, Reading, is_line_end, line_of, fails, unexpected, behind, word_of, word_is, word_in, mark_is, mark_at, ends_line, unless_full}
+use Rattle.conf_tree.specs.Faults.{◌>>=◌}
+use Rattle.conf_tree.specs.Kinds.{is_line_end}
+use Rattle.conf_tree.specs.Reading.{Reading, line_of, fails, unexpected, behind, word_of, word_is, word_in, mark_is, mark_at, ends_line, unless_full}
 use Rattle.conf_tree.specs.Values.{number_at, as_number_at, hold_at, yes_no_at, address_at, prefix_of_word, name_at, group_name_at, quoted_at}
 use Rattle.conf_tree.specs.ItemReading.{set_at}
 

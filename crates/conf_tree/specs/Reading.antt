@@ -1,6 +1,6 @@
 -- Reading a list of tokens from the front: a value and the tokens behind it, or the fault at the first token with which
 -- no good text goes on.
-use Rattle.std.specs.Prelude.{ℕ, zero, suc, ◌-◌, Bool, true, false, ◌&&◌, ◌||◌, List, [], ◌∷◌, length, drop, min, Option, None, Some, Result, Ok, Err, if◌then◌else◌, ◌==◌, bytes_eq, codes}
+use Rattle.std.specs.Prelude.{ℕ, zero, suc, ◌-◌, Bool, false, ◌&&◌, ◌||◌, List, [], ◌∷◌, length, drop, min, Option, None, Some, Result, Ok, Err, if◌then◌else◌, ◌==◌, bytes_eq, codes}
 use Rattle.std.specs.List.{list_any, prefix_len}
 use Rattle.std.specs.Option.{option_map_or}
 use Rattle.net_base.specs.declared.conf.ConfFault.{ConfFault}
@@ -9,12 +9,8 @@ use Rattle.net_base.specs.declared.conf.ConfKind.TheVariants.{UnexpectedWord, To
 use Rattle.net_base.specs.declared.conf.Counted.{Counted}
 use Rattle.conf_tree.specs.declared.token.Token.{Token}
 use Rattle.conf_tree.specs.declared.token.TokenKind.{TokenKind}
-use Rattle.conf_tree.specs.declared.token.TokenKind.TheVariants as kinds
-
-infixl 10 ◌>>=◌
-abbrev pub ◌>>=◌ : {A B : Type 0} → Result A ConfFault → (A → Result B ConfFault) → Result B ConfFault
-(Ok x) >>= f = f x
-(Err e) >>= f = Err e
+use Rattle.conf_tree.specs.Faults.{◌>>=◌}
+use Rattle.conf_tree.specs.Kinds.{is_word, is_mark, is_line_end}
 
 -- a value and the tokens behind it
 abbrev pub Reading : Type 0 → Type 0
@@ -38,30 +34,6 @@ behind [] = []
 behind (token ∷ tokens) = tokens
 
 -- ---- the first token
-
-abbrev pub is_word : TokenKind → Bool
-is_word kinds.Word = true
-is_word kinds.Quoted = false
-is_word kinds.Mark = false
-is_word kinds.LineEnd = false
-
-abbrev pub is_quoted : TokenKind → Bool
-is_quoted kinds.Word = false
-is_quoted kinds.Quoted = true
-is_quoted kinds.Mark = false
-is_quoted kinds.LineEnd = false
-
-abbrev pub is_mark : TokenKind → Bool
-is_mark kinds.Word = false
-is_mark kinds.Quoted = false
-is_mark kinds.Mark = true
-is_mark kinds.LineEnd = false
-
-abbrev pub is_line_end : TokenKind → Bool
-is_line_end kinds.Word = false
-is_line_end kinds.Quoted = false
-is_line_end kinds.Mark = false
-is_line_end kinds.LineEnd = true
 
 -- the first token's text, if it is of a kind
 unfoldable pub text_of : (TokenKind → Bool) → List Token → Option (List ℕ)

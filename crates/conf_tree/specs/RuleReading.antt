@@ -19,7 +19,8 @@ use Rattle.conf_tree.specs.declared.draft.ConditionBlock.TheVariants as conditio
 use Rattle.conf_tree.specs.declared.draft.RuleBlock.{RuleBlock}
 use Rattle.conf_tree.specs.declared.draft.SetPlace.{SetPlace}
 use Rattle.conf_tree.specs.declared.draft.SetPlace.TheVariants as places
-use Rattle.conf_tree.specs.Reading.{◌>>=◌, Reading, Member, fails, unexpected, behind, word_is, word_in, mark_is, ends_line, keyword_at, unless_full, full_list_at, one_or_list_at}
+use Rattle.conf_tree.specs.Faults.{◌>>=◌}
+use Rattle.conf_tree.specs.Reading.{Reading, Member, fails, unexpected, behind, word_is, word_in, mark_is, ends_line, keyword_at, unless_full, full_list_at, one_or_list_at}
 use Rattle.conf_tree.specs.Values.{number_at, as_number_at, address_of, address_at, prefix_at, lengths_at, name_at, group_name_at, community_at, large_community_at}
 use Rattle.conf_tree.specs.ItemReading.{left_out_of_rules, optional_set_at}
 

@@ -15,7 +15,9 @@ use Rattle.conf_tree.specs.declared.draft.Statement.{Statement}
 use Rattle.conf_tree.specs.declared.draft.Statement.TheVariants as says
 use Rattle.conf_tree.specs.declared.draft.StatementLine.{StatementLine}
 use Rattle.conf_tree.specs.declared.draft.Draft.{Draft}
-use Rattle.conf_tree.specs.Reading.{◌>>=◌, Reading, Member, is_line_end, line_of, fails, unexpected, behind, word_is, word_in, keyword_at, mark_at, line_end_at, list_at, unless_full}
+use Rattle.conf_tree.specs.Faults.{◌>>=◌}
+use Rattle.conf_tree.specs.Kinds.{is_line_end}
+use Rattle.conf_tree.specs.Reading.{Reading, Member, line_of, fails, unexpected, behind, word_is, word_in, keyword_at, mark_at, line_end_at, list_at, unless_full}
 use Rattle.conf_tree.specs.Values.{number_at, as_number_at, hold_at, yes_no_at, address_at, v4_at, prefix_at, width, name_at, quoted_at}
 use Rattle.conf_tree.specs.ItemReading.{optional_set_at}
 use Rattle.conf_tree.specs.RuleReading.{ranged_at, counted_number_at, rule_at, flat_rules_of}

@@ -4,7 +4,8 @@ use Rattle.net_base.specs.declared.conf.ConfFault.{ConfFault}
 use Rattle.conf_tree.specs.declared.token.Token.{Token}
 use Rattle.conf_tree.specs.Joined.{Seen, joined}
 use Rattle.conf_tree.specs.Cuts.{Rules, rules_of, Line, first_line}
-use Rattle.conf_tree.specs.Macros.{◌>>=◌, Macros, no_macros, with_macro, Expanded, expanded, defined}
+use Rattle.conf_tree.specs.Faults.{◌>>=◌}
+use Rattle.conf_tree.specs.Macros.{Macros, no_macros, with_macro, Expanded, expanded, defined}
 
 -- What a line leaves: its tokens, its end among them; the macros and the size of replacements behind it; the text behind
 -- it.

@@ -1,8 +1,7 @@
 -- The values that stand in a configuration: numbers, addresses, prefixes, names and quoted texts.
-use Rattle.std.specs.Prelude.{ℕ, ◌+◌, ◌*◌, ◌^◌, Bool, true, false, ◌&&◌, ◌||◌, List, [], ◌∷◌, length, take, drop, Option, None, Some, option_map, option_and_then, Ok, if◌then◌else◌, ◌==◌, nat_lt, nat_le, bytes_eq, codes}
+use Rattle.std.specs.Prelude.{ℕ, ◌+◌, ◌*◌, ◌^◌, Bool, true, false, ◌&&◌, ◌||◌, List, [], length, take, drop, Option, None, Some, option_map, option_and_then, Ok, if◌then◌else◌, ◌==◌, nat_lt, nat_le, bytes_eq, codes}
 use Rattle.std.specs.List.{list_all, position_or_len}
 use Rattle.std.specs.Option.{option_map_or}
-use Rattle.std.specs.Char.{is_ascii_alphabetic, is_ascii_alphanumeric}
 use Rattle.net_base.specs.declared.addr.Family.{Family}
 use Rattle.net_base.specs.declared.addr.Family.TheVariants.{V4, V6}
 use Rattle.net_base.specs.declared.addr.Addr.{Addr}
@@ -17,7 +16,10 @@ use Rattle.conf_tree.specs.declared.token.Token.{Token}
 use Rattle.conf_tree.specs.declared.sets.PrefixRange.{PrefixRange}
 use Rattle.conf_tree.specs.declared.rule.CommunityPattern.{CommunityPattern}
 use Rattle.conf_tree.specs.declared.rule.LargePattern.{LargePattern}
-use Rattle.conf_tree.specs.Reading.{◌>>=◌, Reading, fails, unexpected, behind, text_of, word_of, word_is, mark_is, is_quoted}
+use Rattle.conf_tree.specs.Faults.{◌>>=◌}
+use Rattle.conf_tree.specs.Kinds.{is_quoted}
+use Rattle.conf_tree.specs.Names.{is_name}
+use Rattle.conf_tree.specs.Reading.{Reading, fails, unexpected, behind, text_of, word_of, word_is, mark_is}
 
 -- ---- numbers
 
@@ -153,14 +155,6 @@ lengths_at prefix tokens =
     else Ok (range prefix prefix.len prefix.len, tokens)))
 
 -- ---- names and quoted texts
-
-abbrev pub is_name_byte : ℕ → Bool
-is_name_byte b = is_ascii_alphanumeric b || ((b == 95) || (b == 45))
-
--- a letter, then letters, digits, `_` or `-`
-unfoldable pub is_name : List ℕ → Bool
-is_name [] = false
-is_name (b ∷ text) = is_ascii_alphabetic b && list_all is_name_byte text
 
 -- printable ASCII with blanks, at least one byte
 unfoldable pub is_quoted_group_name : List ℕ → Bool

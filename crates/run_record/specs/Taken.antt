@@ -9,7 +9,7 @@ use Rattle.conf_tree.specs.declared.draft.Statement.{Statement}
 use Rattle.conf_tree.specs.declared.draft.Statement.TheVariants as says
 use Rattle.conf_tree.specs.declared.draft.StatementLine.{StatementLine}
 use Rattle.conf_tree.specs.declared.draft.Draft.{Draft}
-use Rattle.conf_tree.specs.Reading.{◌>>=◌}
+use Rattle.conf_tree.specs.Faults.{◌>>=◌}
 use Rattle.conf_tree.specs.Language.{draft_within, most_text_bytes}
 use Rattle.conf_tree.specs.Checks.{checked}
 
