@@ -1,5 +1,5 @@
 -- A partial bit that is read stands only where its attribute counts.
-use Rattle.std.proofs.Common.{◌≡◌, ◌≢◌, ℕ, ◌+◌, ◌<◌, Bool, true, false, cond, ◌&&◌, List, [], ◌∷◌, refl, ap, lit<}
+use Rattle.std.proofs.Common.{◌≡◌, ◌≢◌, ℕ, ◌+◌, ◌<◌, Bool, true, false, cond, ◌&&◌, List, [], ◌∷◌, refl, lit<}
 use Rattle.std.specs.Prelude.{is_some, IsSome, IsBitSet}
 use Rattle.attr_codec.specs.declared.parts.Paths.{Paths}
 use Rattle.attr_codec.specs.declared.parts.Lists.{Lists}

@@ -1,6 +1,6 @@
 -- The unknown attributes of a field stand by type, and their types are unknown.
-use Rattle.std.proofs.Common.{◌≡◌, ◌∙◌, ℕ, zero, suc, ◌≤◌, ◌<◌, Bool, true, false, cond, List, [], ◌∷◌, ◌++◌, map, Option, Some, None, refl, sym, arith, append-nil}
-use Rattle.std.specs.Prelude.{nat_eq, not, ◌&&◌, IfSome, bit_and, ◌==◌}
+use Rattle.std.proofs.Common.{◌≡◌, ℕ, zero, suc, ◌<◌, Bool, true, false, cond, List, [], ◌∷◌, ◌++◌, map, Option, Some, None, refl, sym, arith, append-nil}
+use Rattle.std.specs.Prelude.{not, ◌&&◌, IfSome, bit_and, ◌==◌}
 use Rattle.std.specs.List.{AllByRecursion}
 use Rattle.std.specs.List.Sorted.{IsStrictlySortedBy}
 use Rattle.std.specs.declared.cmp.Ordering.TheVariants.{Less}
