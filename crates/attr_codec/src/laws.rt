@@ -39,7 +39,7 @@ pub fn attributes_read_back()
     ensures nothing { (enc : Encoding) → field_says enc [] ≡ Ok nothing_said }
 {}
 
-/// Attributes that are read are valid, so they may be sent on.
+/// Attributes that are read are valid, as those that are sent have to be.
 pub fn read_attributes_are_valid()
     ensures { (enc : Encoding) (field : List ℕ) → AreBytes field → IfOk (field_says enc field) (λ said. IfSome said.attrs IsValid) }
 {}

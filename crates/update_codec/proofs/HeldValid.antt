@@ -1,9 +1,8 @@
 -- Routes that valid UPDATEs leave have valid attributes.
-use Rattle.std.proofs.Common.{◌≡◌, ℕ, zero, suc, Bool, true, false, cond, List, [], ◌∷◌, ◌++◌, length, fold, flat_map, take, drop, Option, Some, None, Result, Ok, Err, refl}
+use Rattle.std.proofs.Common.{ℕ, zero, suc, Bool, true, false, cond, List, [], ◌∷◌, length, fold, flat_map, take, drop, Result, Ok, Err}
 use Rattle.std.specs.Prelude.{IfOk, ◌==◌}
 use Rattle.std.specs.List.{AllByRecursion}
-use Rattle.std.specs.Map.{remove_entry}
-use Rattle.std.specs.BTreeMap.{insert_entry, is_at}
+use Rattle.std.specs.BTreeMap.{is_at}
 use Rattle.std.specs.Ordering.{match_ordering}
 use Rattle.std.specs.declared.cmp.Ordering.{Ordering}
 use Rattle.std.specs.declared.cmp.Ordering.TheVariants.{Less, Equal, Greater}
@@ -19,7 +18,7 @@ use Rattle.attr_codec.proofs.Appends.{all_append}
 use Rattle.attr_codec.proofs.Bytes.{bytes_behind, bytes_front}
 use Rattle.update_codec.specs.declared.update.Update.{Update}
 use Rattle.update_codec.specs.Update.{update_says}
-use Rattle.update_codec.specs.Held.{Routes, without, with_route, with_group, with_update, held, read_ones, updates_in, told_from, told}
+use Rattle.update_codec.specs.Held.{Routes, without, with_route, with_group, with_update, held, read_ones, updates_in, told}
 use Rattle.update_codec.specs.Valid.{HasValid, AnnouncesValid, HaveValid}
 use Rattle.update_codec.proofs.ReadValid.{says_valid}
 

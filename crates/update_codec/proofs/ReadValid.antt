@@ -3,7 +3,7 @@ use Rattle.std.proofs.Common.{◌≡◌, ℕ, Bool, true, false, cond, not, ◌&
 use Rattle.std.specs.Prelude.{IfSome, IfOk, nat_lt}
 use Rattle.std.specs.List.{AllByRecursion}
 use Rattle.std.proofs.lemmas.Option.{none-some}
-use Rattle.wire_buf.specs.Field.{number_at, bytes_at}
+use Rattle.wire_buf.specs.Field.{number_at}
 use Rattle.net_base.specs.declared.addr.Family.{Family}
 use Rattle.net_base.specs.declared.addr.Family.TheVariants.{V4}
 use Rattle.net_base.specs.declared.addr.Addr.{Addr}
@@ -18,7 +18,7 @@ use Rattle.attr_codec.specs.Read.{field_says}
 use Rattle.attr_codec.proofs.Appends.{all_append}
 use Rattle.attr_codec.proofs.Bytes.{number_rest, field_parts}
 use Rattle.attr_codec.proofs.ReadValid.{field_valid}
-use Rattle.update_codec.specs.Update.{◌>>=◌, or_fault, field_behind, field_at, leaves_length, withdrawn_at, agreed, unreach_prefixes, group, reach_group, groups_of, has_hop, updated, update_of, update_says}
+use Rattle.update_codec.specs.Update.{◌>>=◌, or_fault, field_behind, field_at, leaves_length, withdrawn_at, agreed, unreach_prefixes, group, reach_group, has_hop, updated, update_of, update_says}
 use Rattle.update_codec.specs.Valid.{HasValid, AnnouncesValid}
 
 -- ---- groups

@@ -7,7 +7,7 @@ ghost use Rattle.update_codec.specs.Update.{update_says};
 ghost use Rattle.update_codec.specs.Held.{held, told};
 ghost use Rattle.update_codec.specs.Valid.{AnnouncesValid, HaveValid};
 
-/// What an UPDATE announces has valid attributes, so it may be sent on.
+/// What an UPDATE announces has valid attributes, as what is sent has to have.
 pub fn update_attributes_are_valid()
     ensures { (enc : Encoding) (body : List ℕ) → AreBytes body → IfOk (update_says enc body) AnnouncesValid }
 {}
