@@ -1,5 +1,5 @@
 -- An attribute field is its attributes and a rest in one way.
-use Rattle.std.proofs.Common.{◌≡◌, ◌∙◌, ℕ, zero, suc, ◌+◌, ◌*◌, ◌/◌, ◌%◌, ◌^◌, ◌<◌, ◌≤◌, Bool, true, false, cond, List, [], ◌∷◌, ◌++◌, length, take, drop, flat_map, Option, Some, None, refl, ap, sym, subst, arith, append_assoc, length-take, take-append-drop, get_or-drop}
+use Rattle.std.proofs.Common.{◌≡◌, ◌∙◌, ℕ, zero, suc, ◌+◌, ◌*◌, ◌/◌, ◌%◌, ◌^◌, ◌<◌, ◌≤◌, Bool, true, false, cond, List, [], ◌∷◌, ◌++◌, length, take, drop, flat_map, Option, Some, None, refl, ap, sym, subst, arith, append_assoc, length-take, take-append-drop}
 use Rattle.std.specs.Prelude.{nat_lt, nat_eq, bit_and, ◌==◌}
 use Rattle.std.specs.List.{AllByRecursion}
 use Rattle.std.proofs.lemmas.Option.{none-some, option_and_then_some}
@@ -9,6 +9,7 @@ use Rattle.wire_buf.specs.Field.{number_at, bytes_at}
 use Rattle.bgp_wire.specs.Message.{AreBytes}
 use Rattle.attr_codec.specs.Cut.{Cut, behind, cut}
 use Rattle.attr_codec.specs.Field.{Attribute, length_size, attribute_at, attribute_bytes, HasItsLength, Spells}
+use Rattle.attr_codec.proofs.Bytes.{bytes_behind}
 use Rattle.attr_codec.proofs.Cutting.{cut_end, cut_found, cut_lost}
 use Rattle.attr_codec.proofs.Fields.{guarded, attribute_takes}
 use Rattle.attr_codec.proofs.ItemsBack.{attribute_back, byte_there}
@@ -32,9 +33,6 @@ pub only_cut : (field : List ℕ) (c : Cut Attribute) → Spells field c → cut
 only_cut field c s = ap (cut attribute_at) s.all ∙ spelled c.items s.rest s.each s.ends ∙ ap (λ (w : Bool). record { items = c.items; whole = w }) (sym s.whole)
 
 -- ---- the cut that is made is spelled
-
-bytes_behind : (n : ℕ) (bytes : List ℕ) → AreBytes bytes → AreBytes (drop n bytes)
-bytes_behind n bytes are i = rw (get_or-drop n bytes i 0) (are (n + i))
 
 -- a field of one byte or of two, in front of the rest
 pub record Front (n : ℕ) (bytes : List ℕ) (x : ℕ × List ℕ) : Type 0 where

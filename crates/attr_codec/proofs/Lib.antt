@@ -18,3 +18,11 @@ pub mod Sending
 pub mod FieldSays
 pub mod Shorts
 pub mod FieldSplits
+pub mod Bytes
+pub mod CutItems
+pub mod PathsRead
+pub mod Ascends
+pub mod ValuesRead
+pub mod UnknownRead
+pub mod PartialRead
+pub mod ReadValid

@@ -1,4 +1,4 @@
-ghost use Rattle.std.specs.Prelude.{◌≡◌, ◌≤◌, ◌+◌, ℕ, List, [], true, Ok, Some, None, length};
+ghost use Rattle.std.specs.Prelude.{◌≡◌, ◌≤◌, ◌+◌, ℕ, List, [], true, Ok, Some, None, length, IfSome, IfOk};
 ghost use Rattle.std.specs.List.{AllByRecursion};
 ghost use Rattle.net_base.specs.declared.addr.Family.{Family};
 ghost use Rattle.net_base.specs.declared.addr.Family.TheVariants.{V4, V6};
@@ -6,6 +6,7 @@ ghost use Rattle.net_base.specs.declared.prefix.Prefix.{Prefix};
 ghost use Rattle.bgp_wire.specs.Message.{AreBytes};
 ghost use Rattle.bgp_wire.specs.declared.open.Encoding.{Encoding};
 ghost use Rattle.attr_model.specs.declared.attrs.Attrs.{Attrs};
+ghost use Rattle.attr_model.specs.Valid.{IsValid};
 ghost use Rattle.attr_codec.specs.Cut.{Cut, cut};
 ghost use Rattle.attr_codec.specs.Field.{Attribute, attribute_at, Spells};
 ghost use Rattle.attr_codec.specs.Prefixes.{IsOf, prefixes_of, prefixes_bytes};
@@ -36,4 +37,9 @@ pub fn attributes_read_back()
     ensures unreach { (enc : Encoding) (prefixes : List Prefix) → enc.v6 ≡ true → AllByRecursion (IsOf V6) prefixes → 3 + length (prefixes_bytes prefixes) ≤ 65535
         → field_says enc (row_bytes (unreach_row prefixes)) ≡ Ok (unsent prefixes) }
     ensures nothing { (enc : Encoding) → field_says enc [] ≡ Ok nothing_said }
+{}
+
+/// Attributes that are read are valid, as those that are sent have to be.
+pub fn read_attributes_are_valid()
+    ensures { (enc : Encoding) (field : List ℕ) → AreBytes field → IfOk (field_says enc field) (λ said. IfSome said.attrs IsValid) }
 {}

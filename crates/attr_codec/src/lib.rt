@@ -24,7 +24,9 @@ mod update_fault;
 mod values;
 mod writing;
 
-pub use laws::{attributes_read_back, attributes_split, prefixes_read_back};
+pub use laws::{
+    attributes_read_back, attributes_split, prefixes_read_back, read_attributes_are_valid,
+};
 pub use outcome::ReadAttrs;
 pub use prefixes::{addr_in, are_prefixes, read_prefixes};
 pub use put_prefixes::{prefixes_size, write_prefixes, write_reach, write_unreach};

@@ -2,3 +2,5 @@ pub mod Bytes
 pub mod ReadBack
 pub mod Plain
 pub mod Stream
+pub mod ReadValid
+pub mod HeldValid

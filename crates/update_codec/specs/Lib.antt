@@ -1,3 +1,4 @@
 pub mod Update
 pub mod Written
 pub mod Held
+pub mod Valid

@@ -2,12 +2,14 @@
 #![tactic(auto)]
 
 mod holding;
+mod laws;
 mod out_update;
 mod reading;
 mod update;
 mod writing;
 
 pub use holding::{Routes, held, told};
+pub use laws::{held_attributes_are_valid, update_attributes_are_valid};
 pub use out_update::OutUpdate;
 pub use reading::read_update;
 pub use update::{GroupList, Update};
