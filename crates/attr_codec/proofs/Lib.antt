@@ -1,7 +1,6 @@
 pub mod Cutting
 pub mod Fields
 pub mod Firsts
-pub mod Ordered
 pub mod Faults
 pub mod Kept
 pub mod Lengths
@@ -22,6 +21,7 @@ pub mod Bytes
 pub mod CutItems
 pub mod PathsRead
 pub mod Ascends
+pub mod Ordered
 pub mod ValuesRead
 pub mod UnknownRead
 pub mod PartialRead

@@ -1,10 +1,10 @@
 -- Items that are sorted and rid of repeats are those that are put in their places one by one.
 use Rattle.std.proofs.Common.{◌≡◌, ◌∙◌, ℕ, eqb, Bool, true, false, cond, ◌&&◌, ◌||◌, List, [], ◌∷◌, fold, refl, ap, sym}
-use Rattle.std.specs.List.{AllByRecursion, list_any, dedup, dedup_from}
-use Rattle.std.specs.List.Sorted.{IsStrictlySortedBy, IsPermutation, IsSorted}
+use Rattle.std.specs.List.{list_any, dedup, dedup_from}
+use Rattle.std.specs.List.Sorted.{IsPermutation, IsSorted}
 use Rattle.std.specs.declared.cmp.Ordering.{Ordering}
 use Rattle.std.specs.declared.cmp.Ordering.TheVariants.{Less, Equal, Greater}
-use Rattle.std.specs.Ordering.{match_ordering, ordering_reverse, ordering_then, is_eq, eq_by_cmp, nat_cmp}
+use Rattle.std.specs.Ordering.{match_ordering, ordering_then, is_eq, eq_by_cmp, nat_cmp}
 use Rattle.std.specs.BTreeMap.{is_at}
 use Rattle.std.specs.BTreeSet.{insert_key}
 use Rattle.std.specs.Cmp.{IsTotalOrder, unsigned_ties}
@@ -13,6 +13,7 @@ use Rattle.std.proofs.lemmas.List.Sorted.{list_any-IsPermutation}
 use Rattle.std.proofs.lemmas.Map.Lookups.{CmpEqualImpliesEq, btree_set_from_contains, exact_unsigned}
 use Rattle.attr_model.specs.Valid.{large_cmp}
 use Rattle.attr_codec.specs.Ascending.{ascending}
+use Rattle.attr_codec.proofs.Ascends.{ascending_sorted}
 
 -- ---- tests
 
@@ -63,39 +64,6 @@ module _ {X : Type 0} (R : X → X → Ordering) (o : IsTotalOrder R) (exact : C
       rid [] = refl
       rid (x ∷ xs) = rid_from x xs
 
-  -- ---- their order
-
-  below_all : (low k : X) (ks : List X) → R low k ≡ Less → AllByRecursion (λ y. R low y ≡ Less) ks → AllByRecursion (λ y. R low y ≡ Less) (insert_key R ks k)
-  below_all low k [] h all = (h, tt)
-  below_all low k (x ∷ ks) h all = by (R k x) (below_all low k ks h all.1)
-    where
-      by : (r : Ordering) → AllByRecursion (λ y. R low y ≡ Less) (insert_key R ks k) → AllByRecursion (λ y. R low y ≡ Less) (match_ordering r (k ∷ x ∷ ks) (x ∷ ks) (x ∷ insert_key R ks k))
-      by Less behind = (h, all)
-      by Equal behind = all
-      by Greater behind = (all.0, behind)
-
-  above_first : (k x : X) (ks : List X) → R k x ≡ Less → AllByRecursion (λ y. R x y ≡ Less) ks → AllByRecursion (λ y. R k y ≡ Less) ks
-  above_first k x [] h all = tt
-  above_first k x (y ∷ ks) h all = (o.trans k x y h all.0, above_first k x ks h all.1)
-
-  put_sorted : (ks : List X) (k : X) → IsStrictlySortedBy R ks → IsStrictlySortedBy R (insert_key R ks k)
-  unfolding IsStrictlySortedBy
-  put_sorted [] k strict = (tt, tt)
-  put_sorted (x ∷ ks) k strict = by (R k x) refl (put_sorted ks k strict.1)
-    where
-      by : (r : Ordering) → R k x ≡ r → IsStrictlySortedBy R (insert_key R ks k) → IsStrictlySortedBy R (match_ordering r (k ∷ x ∷ ks) (x ∷ ks) (x ∷ insert_key R ks k))
-      by Less h behind = ((h, above_first k x ks h strict.0), strict)
-      by Equal h behind = strict
-      by Greater h behind = (below_all x k ks (o.antisymm x k ∙ ap ordering_reverse h) strict.0, behind)
-
-  all_sorted : (done xs : List X) → IsStrictlySortedBy R done → IsStrictlySortedBy R (fold (insert_key R) done xs)
-  all_sorted done [] strict = strict
-  all_sorted done (x ∷ xs) strict = all_sorted (insert_key R done x) xs (put_sorted done x strict)
-
-  pub ascending_sorted : (xs : List X) → IsStrictlySortedBy R (ascending R xs)
-  unfolding IsStrictlySortedBy
-  ascending_sorted xs = all_sorted [] xs tt
-
   -- ---- sorted, and each once
 
   no_more : (a : Bool) → (a || false) ≡ a
@@ -104,7 +72,7 @@ module _ {X : Type 0} (R : X → X → Ordering) (o : IsTotalOrder R) (exact : C
 
   pub sorted_once : (same : X → X → Bool) → ((x y : X) → same x y ≡ eq_by_cmp R x y) → (xs ys : List X) → IsPermutation xs ys → IsSorted R ys → dedup same ys ≡ ascending R xs
   sorted_once same ties xs ys moved in_order =
-      btree_set_from_contains o (record { keys = dedup same ys }) (record { keys = ascending R xs }) (IsStrictlySortedBy-dedup o ties ys in_order) (ascending_sorted xs)
+      btree_set_from_contains o (record { keys = dedup same ys }) (record { keys = ascending R xs }) (IsStrictlySortedBy-dedup o ties ys in_order) (ascending_sorted R o xs)
       (λ q. rid (is_at (R q)) same (λ x y e. tells x y (sym (ties x y) ∙ e)) ys ∙ sym (list_any-IsPermutation (is_at (R q)) xs ys moved) ∙ sym (no_more (list_any (is_at (R q)) xs)) ∙ sym (all_in (is_at (R q)) [] xs)) exact
     where
       by : (r : Ordering) → is_eq r ≡ true → r ≡ Equal
