@@ -1,1 +1,2 @@
 pub mod Prepending
+pub mod PrependedValid

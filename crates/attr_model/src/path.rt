@@ -87,6 +87,7 @@ impl Clone for Path {
 
 impl Path {
     ghost use Rattle.attr_model.specs.Path.{path_length, origin_as, prepended};
+    ghost use Rattle.attr_model.specs.Valid.{IsPath};
 
     /// The path of a route that begins here. It takes no memory.
     pub fn new(alloc: Global) -> Self
@@ -146,6 +147,7 @@ impl Path {
     pub fn prepend(&mut self, alloc: Global, asn: u32, times: u8) -> Result<(), NoMemory>
         ensures ok { OnOk result (self.new ≡ prepended asn times self.old) }
         ensures err { OnErr result (self.new ≡ self.old) }
+        ensures valid { IsPath self.old → IsPath self.new }
     {
         let mut segments = mem::replace(&mut self.segments, Items::new(alloc)).into_vec();
         let outcome = prepend_to(alloc, &mut segments, asn, times);
