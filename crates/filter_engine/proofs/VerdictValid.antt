@@ -2,7 +2,6 @@
 use Rattle.std.proofs.Common.{◌≡◌, ◌≢◌, ℕ, Bool, true, false, List, [], ◌∷◌, Option, None, Some, refl, subst}
 use Rattle.std.proofs.lemmas.Bool.{cond_both}
 use Rattle.attr_model.specs.declared.attrs.Attrs.{Attrs}
-use Rattle.attr_model.specs.Path.{origin_as}
 use Rattle.attr_model.specs.Valid.{IsValid}
 use Rattle.conf_tree.specs.declared.conf.Conf.{Conf}
 use Rattle.conf_tree.specs.declared.rule.Rule.{Rule}
@@ -11,10 +10,10 @@ use Rattle.filter_engine.specs.declared.verdict.Hop.{Hop}
 use Rattle.filter_engine.specs.declared.verdict.Verdict.{Verdict}
 use Rattle.filter_engine.specs.declared.verdict.Verdict.TheVariants.{Deny, Same, Changed}
 use Rattle.filter_engine.specs.Conditions.{rule_matches}
-use Rattle.filter_engine.specs.Verdict.{Course, IsValidVerdict, Says, begun, evaluated, outcome, taken, verdict}
+use Rattle.filter_engine.specs.Verdict.{Course, IsValidVerdict, Says, evaluated, outcome, taken}
 use Rattle.filter_engine.proofs.ItemsValid.{items_valid}
 
-evaluated_valid : (conf : Conf) (context : Context) (origin : Option ℕ) (rules : List Rule) (course : Course) → IsValid course.attrs → IsValid (evaluated conf context origin rules course).attrs
+pub evaluated_valid : (conf : Conf) (context : Context) (origin : Option ℕ) (rules : List Rule) (course : Course) → IsValid course.attrs → IsValid (evaluated conf context origin rules course).attrs
 unfolding evaluated
 evaluated_valid conf context origin [] course valid = valid
 evaluated_valid conf context origin (rule ∷ rules) course valid =
@@ -27,7 +26,7 @@ evaluated_valid conf context origin (rule ∷ rules) course valid =
     (λ _. evaluated_valid conf context origin rules course valid)
 
 -- what is decided of a course with valid attributes
-said_valid : (route : Attrs) (course : Course) (said : Verdict) → IsValid course.attrs → Says route (outcome course) said → IsValidVerdict said
+pub said_valid : (route : Attrs) (course : Course) (said : Verdict) → IsValid course.attrs → Says route (outcome course) said → IsValidVerdict said
 said_valid route course Deny valid says = tt
 said_valid route course (Same hop) valid says = tt
 said_valid route course (Changed attrs hop) valid says = by course.passes refl
@@ -46,9 +45,3 @@ said_valid route course (Changed attrs hop) valid says = by course.passes refl
     by false e =
         let denied : Changed attrs hop ≡ Deny = rw e at says in
         absurd cc
-
-pub verdict_valid : (conf : Conf) (rules : List Rule) (context : Context) (route : Attrs) (said : Verdict) → IsValid route → Says route (verdict conf rules context route) said → IsValidVerdict said
-unfolding verdict
-verdict_valid conf rules context route said valid says =
-    said_valid route (evaluated conf context (origin_as context.own_as route.path) rules (begun route)) said
-    (evaluated_valid conf context (origin_as context.own_as route.path) rules (begun route) valid) says
