@@ -143,7 +143,8 @@ impl Path {
     }
 
     /// Puts an AS number in front, `times` times. A sequence in front is filled up to 255 numbers before
-    /// a new one begins (RFC 4271 section 5.1.2). Where memory is refused, the path is as it was.
+    /// a new one begins (RFC 4271 section 5.1.2). Where memory is refused, the path is as it was. A valid path stays
+    /// valid.
     pub fn prepend(&mut self, alloc: Global, asn: u32, times: u8) -> Result<(), NoMemory>
         ensures ok { OnOk result (self.new ≡ prepended asn times self.old) }
         ensures err { OnErr result (self.new ≡ self.old) }

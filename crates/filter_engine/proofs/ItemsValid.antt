@@ -17,7 +17,7 @@ use Rattle.conf_tree.specs.declared.rule.RouteOrigin.{RouteOrigin}
 use Rattle.conf_tree.specs.declared.rule.RouteOrigin.TheVariants as origin
 use Rattle.filter_engine.specs.declared.context.Context.{Context}
 use Rattle.filter_engine.specs.Conditions.{community_agrees, large_agrees}
-use Rattle.filter_engine.specs.Items.{changed_number, large_below, large_placed, origin_code, partial_without, placed, with_community, with_item, with_items, with_large, with_origin, with_prepends, without_communities, without_large}
+use Rattle.filter_engine.specs.Items.{changed_number, large_placed, origin_code, partial_without, placed, with_community, with_item, with_items, with_large, with_origin, with_prepends, without_communities, without_large}
 use Rattle.filter_engine.proofs.PartialBits.{with_one, with_one_large, without_some, without_some_large}
 use Rattle.filter_engine.proofs.Placed.{large_placed_sorted, placed_sorted}
 

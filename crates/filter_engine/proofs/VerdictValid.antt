@@ -1,12 +1,11 @@
 -- The attributes of a verdict are valid where those of the route were.
-use Rattle.std.proofs.Common.{◌≡◌, ◌≢◌, ℕ, Bool, true, false, List, [], ◌∷◌, Option, None, Some, refl, subst}
+use Rattle.std.proofs.Common.{◌≡◌, ◌≢◌, ℕ, Bool, true, false, List, [], ◌∷◌, Option, Some, refl, subst}
 use Rattle.std.proofs.lemmas.Bool.{cond_both}
 use Rattle.attr_model.specs.declared.attrs.Attrs.{Attrs}
 use Rattle.attr_model.specs.Valid.{IsValid}
 use Rattle.conf_tree.specs.declared.conf.Conf.{Conf}
 use Rattle.conf_tree.specs.declared.rule.Rule.{Rule}
 use Rattle.filter_engine.specs.declared.context.Context.{Context}
-use Rattle.filter_engine.specs.declared.verdict.Hop.{Hop}
 use Rattle.filter_engine.specs.declared.verdict.Verdict.{Verdict}
 use Rattle.filter_engine.specs.declared.verdict.Verdict.TheVariants.{Deny, Same, Changed}
 use Rattle.filter_engine.specs.Conditions.{rule_matches}

@@ -27,7 +27,8 @@ pub(crate) struct Progress {
 /// What the rules decide of a route (bgpd.conf(5), FILTER). They are read in order. The set of each rule that matches
 /// is applied at once, so that later rules see the changed route; `ovs` and `origin-set` go by the path as it came.
 /// The last `allow` or `deny` that matches decides, and a `quick` rule that matches is the last. Where none decides,
-/// the route doesn't pass. The answer is Same exactly where no attribute differs at the end.
+/// the route doesn't pass. The answer is Same exactly where no attribute differs at the end. Where the attributes of
+/// the route are valid, so are those of the answer.
 #[tactic(auto, unfolding(crate::specs::Verdict::verdict))]
 pub fn evaluate<M: Members, L: Ledger>(
     alloc: Global,

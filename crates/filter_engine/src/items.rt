@@ -19,7 +19,8 @@ const ALL_BUT_COMMUNITIES: u8 = 5;
 const ALL_BUT_LARGE: u8 = 3;
 
 /// Changes the attributes by the items of a set, one after the other. The next hop that they choose is `choose_hop`'s
-/// answer. Where memory is refused, the changes of some items may be made already.
+/// answer. Where memory is refused, the changes of some items may be made already. Valid attributes stay valid in
+/// each case.
 pub fn apply_set(
     alloc: Global,
     set: &ItemList,
