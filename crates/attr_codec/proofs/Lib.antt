@@ -1,7 +1,7 @@
 pub mod Cutting
 pub mod Fields
 pub mod Firsts
-pub mod Places
+pub mod Ordered
 pub mod Faults
 pub mod Kept
 pub mod Lengths

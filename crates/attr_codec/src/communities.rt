@@ -9,22 +9,31 @@ ghost use Rattle.attr_codec.specs.Path.{numbers_of};
 ghost use Rattle.attr_codec.specs.Communities.{communities_said, large_said};
 ghost use Rattle.attr_codec.specs.Large.{large_at, larges_of};
 
-use crate::ascending::{insert_community, insert_large};
+use crate::ascending::{order_communities, order_larges};
 use crate::said::{Flags, Said, bytes_said};
 use attr_model::{CommunityList, LargeList};
 use net_base::{Items, NoMemory};
 use std::alloc::Global;
 use wire_buf::{Cursor, Short};
 
+// The communities that stand in a value.
+fn read_numbers(alloc: Global, value: &[u8]) -> Result<Vec<u32>, NoMemory>
+    ensures { IfOk result (λ list. list.items ≡ numbers_of 4 value.now) }
+{
+    let mut list = Vec::with_capacity(alloc, value.len() / 4)?;
+    let mut left = Cursor::new(value);
+    while let Ok(community) = left.u32() {
+        list.push(community)?;
+    }
+    Ok(list)
+}
+
 // The communities that stand in a value, in order.
 fn read_communities(alloc: Global, value: &[u8]) -> Result<CommunityList, NoMemory>
     ensures { IfOk result (λ list. list ≡ ascending nat_cmp (numbers_of 4 value.now)) }
 {
-    let mut list = Vec::new(alloc);
-    let mut left = Cursor::new(value);
-    while let Ok(community) = left.u32() {
-        insert_community(&mut list, community)?;
-    }
+    let mut list = read_numbers(alloc, value)?;
+    order_communities(&mut list);
     Ok(Items::from_vec(list))
 }
 
@@ -52,15 +61,24 @@ fn next_large(left: &mut Cursor<'_>) -> Result<(u32, u32, u32), Short>
     Ok((administrator, first, second))
 }
 
+// The large communities that stand in a value.
+fn read_triples(alloc: Global, value: &[u8]) -> Result<Vec<(u32, u32, u32)>, NoMemory>
+    ensures { IfOk result (λ list. list.items ≡ larges_of value.now) }
+{
+    let mut list = Vec::with_capacity(alloc, value.len() / 12)?;
+    let mut left = Cursor::new(value);
+    while let Ok(large) = next_large(&mut left) {
+        list.push(large)?;
+    }
+    Ok(list)
+}
+
 // The large communities that stand in a value, in order.
 fn read_larges(alloc: Global, value: &[u8]) -> Result<LargeList, NoMemory>
     ensures { IfOk result (λ list. list ≡ ascending large_cmp (larges_of value.now)) }
 {
-    let mut list = Vec::new(alloc);
-    let mut left = Cursor::new(value);
-    while let Ok(large) = next_large(&mut left) {
-        insert_large(&mut list, large)?;
-    }
+    let mut list = read_triples(alloc, value)?;
+    order_larges(&mut list);
     Ok(Items::from_vec(list))
 }
 

@@ -195,18 +195,34 @@ fn an_unknown_attribute_is_sent_on(rt: HostRuntime) -> Result<(), Fail> {
     Ok(())
 }
 
-// 65002 behind 1010 or 1011 numbers of 65001: in 4096 bytes the first has room, and the second has none.
+// A number behind 1010 numbers of 65001.
+fn route_of_1011(alloc: Global, last: u32) -> Result<Attrs, Fail> {
+    let mut attrs = route_with_unknown(alloc)?;
+    attrs.unknown.clear();
+    attrs.path.push(Segment::Sequence(Items::from_slice(alloc, &[last])?))?;
+    for times in [128, 128, 128, 128, 128, 128, 128, 113, 1] {
+        attrs.path.prepend(alloc, 65001, times)?;
+    }
+    Ok(attrs)
+}
+
+// In 4096 bytes 1011 numbers have room, and 1012 have none.
 #[test]
 fn the_longest_path(rt: HostRuntime) -> Result<(), Fail> {
-    let mut attrs = route_with_unknown(rt.alloc())?;
-    attrs.unknown.clear();
-    attrs.path.push(Segment::Sequence(Items::from_slice(rt.alloc(), &[65002])?))?;
-    for times in [128, 128, 128, 128, 128, 128, 128, 113, 1] {
-        attrs.path.prepend(rt.alloc(), 65001, times)?;
-    }
+    let mut attrs = route_of_1011(rt.alloc(), 65002)?;
     assert_eq!(rt; size(EXTERNAL, &attrs, 4), 4094);
     attrs.path.prepend(rt.alloc(), 65001, 1)?;
     assert_eq!(rt; size(EXTERNAL, &attrs, 4), 4098);
+    Ok(())
+}
+
+// To a two-octet peer AS4_PATH stands beside AS_PATH where a number is above 65535: 1011 numbers have no room then.
+#[test]
+fn the_longest_path_in_two_octets(rt: HostRuntime) -> Result<(), Fail> {
+    let small = route_of_1011(rt.alloc(), 65002)?;
+    assert_eq!(rt; size(TWO_OCTETS, &small, 4), 2072);
+    let large = route_of_1011(rt.alloc(), 70000)?;
+    assert_eq!(rt; size(TWO_OCTETS, &large, 4), 6128);
     Ok(())
 }
 

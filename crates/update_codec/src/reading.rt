@@ -76,7 +76,7 @@ fn with_hop(attrs: Attrs, hop: Addr) -> Attrs
     attrs
 }
 
-// The groups of attributes with prefixes. Attributes are copied only where both fields are there.
+// The groups of attributes with prefixes. Attributes are copied only where both fields have prefixes.
 fn groups(
     alloc: Global,
     attrs: Attrs,
@@ -90,6 +90,10 @@ fn groups(
         push_group(&mut groups, attrs, plain)?;
         return Ok(groups);
     };
+    if prefixes.is_empty() {
+        push_group(&mut groups, attrs, plain)?;
+        return Ok(groups);
+    }
     if !plain.is_empty() {
         push_group(&mut groups, attrs.clone()?, plain)?;
     }
