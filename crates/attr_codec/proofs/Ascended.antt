@@ -1,5 +1,5 @@
 -- A list in order stays as it is when its items are put in order.
-use Rattle.std.proofs.Common.{◌≡◌, ◌∙◌, ℕ, List, [], ◌∷◌, ◌++◌, fold, refl, ap, sym, subst, append_assoc, append-nil}
+use Rattle.std.proofs.Common.{◌≡◌, ◌∙◌, List, [], ◌∷◌, ◌++◌, fold, refl, ap, sym, subst, append_assoc, append-nil}
 use Rattle.std.specs.List.{AllByRecursion}
 use Rattle.std.specs.List.Sorted.{IsStrictlySortedBy}
 use Rattle.std.specs.declared.cmp.Ordering.{Ordering}
@@ -7,13 +7,8 @@ use Rattle.std.specs.declared.cmp.Ordering.TheVariants.{Less, Greater}
 use Rattle.std.specs.Ordering.{ordering_reverse}
 use Rattle.std.specs.Cmp.{IsTotalOrder}
 use Rattle.std.specs.BTreeSet.{insert_key}
-use Rattle.std.proofs.lemmas.Cmp.{nat_cmp_total, on_total, then_total}
 use Rattle.std.proofs.lemmas.Map.Keys.{sorted_head, sorted_tail}
-use Rattle.attr_model.specs.Valid.{large_cmp}
 use Rattle.attr_codec.specs.Ascending.{ascending}
-
-pub large_total : IsTotalOrder large_cmp
-large_total = then_total (then_total (on_total (λ (l : ℕ × ℕ × ℕ). l.0) nat_cmp_total) (on_total (λ (l : ℕ × ℕ × ℕ). l.1) nat_cmp_total)) (on_total (λ (l : ℕ × ℕ × ℕ). l.2) nat_cmp_total)
 
 module _ {X : Type 0} (cmp : X → X → Ordering) (order : IsTotalOrder cmp) where
   turned : (x y : X) → cmp y x ≡ Less → cmp x y ≡ Greater

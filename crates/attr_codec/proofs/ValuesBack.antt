@@ -31,7 +31,8 @@ use Rattle.attr_codec.specs.Written.{aggregator_bytes, large_bytes, list_value, 
 use Rattle.attr_codec.specs.Width.{IsNumber, AreNumbers, AreSegments, IsAggregator, IsLarge}
 use Rattle.attr_codec.proofs.Rows.{attribute_of, or_none}
 use Rattle.attr_codec.proofs.ItemsBack.{told_segment, map_same, u32s_back, larges_back, path_back}
-use Rattle.attr_codec.proofs.Ascended.{ascending_same, large_total}
+use Rattle.attr_model.proofs.LargeOrder.{large_total}
+use Rattle.attr_codec.proofs.Ascended.{ascending_same}
 use Rattle.attr_codec.proofs.Lengths.{u32s_size, larges_size}
 
 -- an attribute that is there is said

@@ -1,1 +1,3 @@
 pub mod Prepending
+pub mod PrependedValid
+pub mod LargeOrder

@@ -87,6 +87,7 @@ impl Clone for Path {
 
 impl Path {
     ghost use Rattle.attr_model.specs.Path.{path_length, origin_as, prepended};
+    ghost use Rattle.attr_model.specs.Valid.{IsPath};
 
     /// The path of a route that begins here. It takes no memory.
     pub fn new(alloc: Global) -> Self
@@ -142,10 +143,12 @@ impl Path {
     }
 
     /// Puts an AS number in front, `times` times. A sequence in front is filled up to 255 numbers before
-    /// a new one begins (RFC 4271 section 5.1.2). Where memory is refused, the path is as it was.
+    /// a new one begins (RFC 4271 section 5.1.2). Where memory is refused, the path is as it was. A valid path stays
+    /// valid.
     pub fn prepend(&mut self, alloc: Global, asn: u32, times: u8) -> Result<(), NoMemory>
         ensures ok { OnOk result (self.new ≡ prepended asn times self.old) }
         ensures err { OnErr result (self.new ≡ self.old) }
+        ensures valid { IsPath self.old → IsPath self.new }
     {
         let mut segments = mem::replace(&mut self.segments, Items::new(alloc)).into_vec();
         let outcome = prepend_to(alloc, &mut segments, asn, times);

@@ -3,3 +3,7 @@ pub mod FrontNumbers
 pub mod SameAttrs
 pub mod BySets
 pub mod EmptySet
+pub mod Placed
+pub mod PartialBits
+pub mod ItemsValid
+pub mod VerdictValid

@@ -2,6 +2,7 @@
 use Rattle.std.specs.Prelude.{◌≡◌, ◌≢◌, ℕ, Bool, true, false, List, [], ◌∷◌, Option, Some, None, if◌then◌else◌}
 use Rattle.attr_model.specs.declared.attrs.Attrs.{Attrs}
 use Rattle.attr_model.specs.Path.{origin_as}
+use Rattle.attr_model.specs.Valid.{IsValid}
 use Rattle.conf_tree.specs.declared.conf.Conf.{Conf}
 use Rattle.conf_tree.specs.declared.rule.Action.{Action}
 use Rattle.conf_tree.specs.declared.rule.Action.TheVariants as does
@@ -57,3 +58,8 @@ verdict conf rules context attrs = outcome (evaluated conf context (origin_as co
 abbrev pub Says : Attrs → Option (Attrs × Hop) → Verdict → Type 0
 Says route None said = said ≡ Deny
 Says route (Some (attrs, hop)) said = (attrs ≡ route → said ≡ Same hop) × (attrs ≢ route → said ≡ Changed attrs hop)
+
+-- the attributes of a verdict, where it changes them, could be sent
+abbrev pub IsValidVerdict : Verdict → Type 0
+IsValidVerdict (Changed attrs hop) = IsValid attrs
+IsValidVerdict said = Unit {0}

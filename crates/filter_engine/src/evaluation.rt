@@ -1,8 +1,9 @@
 ghost use Rattle.std.specs.Prelude.{◌≡◌, ◌+◌, ◌↔◌, IsTrue, IfOk, OnOk, unwrap_or, true, false};
 ghost use Rattle.std.specs.List.{All};
 ghost use Rattle.attr_model.specs.Path.{origin_as};
+ghost use Rattle.attr_model.specs.Valid.{IsValid};
 ghost use Rattle.filter_engine.specs.Named.{AreNamed, IsNamed};
-ghost use Rattle.filter_engine.specs.Verdict.{Says, begun, decided, evaluated, outcome, taken, verdict};
+ghost use Rattle.filter_engine.specs.Verdict.{IsValidVerdict, Says, begun, decided, evaluated, outcome, taken, verdict};
 ghost use Rattle.filter_engine.specs.Progress.{course_of};
 
 use crate::items::{apply_set, choose_hop};
@@ -26,7 +27,8 @@ pub(crate) struct Progress {
 /// What the rules decide of a route (bgpd.conf(5), FILTER). They are read in order. The set of each rule that matches
 /// is applied at once, so that later rules see the changed route; `ovs` and `origin-set` go by the path as it came.
 /// The last `allow` or `deny` that matches decides, and a `quick` rule that matches is the last. Where none decides,
-/// the route doesn't pass. The answer is Same exactly where no attribute differs at the end.
+/// the route doesn't pass. The answer is Same exactly where no attribute differs at the end. Where the attributes of
+/// the route are valid, so are those of the answer.
 #[tactic(auto, unfolding(crate::specs::Verdict::verdict))]
 pub fn evaluate<M: Members, L: Ledger>(
     alloc: Global,
@@ -39,6 +41,7 @@ pub fn evaluate<M: Members, L: Ledger>(
     requires { AreNamed (M.conf_of sets.now) rules.now }
     ensures verdict { IfOk result (Says route.now (verdict (M.conf_of sets.now) rules.now context.now route.now)) }
     ensures counted { steps.new ≡ steps.old + 1 }
+    ensures valid { IsValid route.now → IfOk result IsValidVerdict }
 {
     steps.tick();
     let origin = route.path.origin_as(context.own_as);

@@ -1,6 +1,7 @@
 //! The items of a set, one function for each word of the language.
 
-ghost use Rattle.std.specs.Prelude.{◌≡◌, ◌==◌, OnOk, bit_and, if◌then◌else◌};
+ghost use Rattle.std.specs.Prelude.{◌≡◌, ◌==◌, OnErr, OnOk, bit_and, if◌then◌else◌};
+ghost use Rattle.attr_model.specs.Valid.{IsValid};
 ghost use Rattle.filter_engine.specs.Items.{changed_number, chosen_hop, hop_with_item, hop_with_items, origin_code, partial_without, with_community, with_item, with_items, with_large, with_localpref, with_med, with_origin, with_prepends, with_weight, without_communities, without_large};
 
 use crate::communities::{large_placed, large_without, placed, without};
@@ -18,14 +19,16 @@ const ALL_BUT_COMMUNITIES: u8 = 5;
 const ALL_BUT_LARGE: u8 = 3;
 
 /// Changes the attributes by the items of a set, one after the other. The next hop that they choose is `choose_hop`'s
-/// answer. Where memory is refused, the changes of some items may be made already.
+/// answer. Where memory is refused, the changes of some items may be made already. Valid attributes stay valid in
+/// each case.
 pub fn apply_set(
     alloc: Global,
     set: &ItemList,
     context: &Context,
     attrs: &mut Attrs,
 ) -> Result<(), NoMemory>
-    ensures { OnOk result (attrs.new ≡ with_items context.now attrs.old set.now) }
+    ensures ok { OnOk result (attrs.new ≡ with_items context.now attrs.old set.now) }
+    ensures valid { IsValid attrs.old → IsValid attrs.new }
 {
     for item in set.as_slice() {
         apply_item(alloc, *item, context, attrs)?;
@@ -59,7 +62,8 @@ fn apply_item(
     context: &Context,
     attrs: &mut Attrs,
 ) -> Result<(), NoMemory>
-    ensures { OnOk result (attrs.new ≡ with_item context.now attrs.old item) }
+    ensures ok { OnOk result (attrs.new ≡ with_item context.now attrs.old item) }
+    ensures err { OnErr result (attrs.new ≡ attrs.old) }
 {
     match item {
         Item::LocalPref(by) => localpref(attrs, by),
@@ -113,7 +117,8 @@ fn weight(attrs: &mut Attrs, by: Change)
 
 /// `prepend-self` and `prepend-neighbor`.
 fn prepend(alloc: Global, attrs: &mut Attrs, asn: u32, times: u8) -> Result<(), NoMemory>
-    ensures { OnOk result (attrs.new ≡ with_prepends asn times attrs.old) }
+    ensures ok { OnOk result (attrs.new ≡ with_prepends asn times attrs.old) }
+    ensures err { OnErr result (attrs.new ≡ attrs.old) }
 {
     attrs.path.prepend(alloc, asn, times)
 }
@@ -131,7 +136,8 @@ fn origin(attrs: &mut Attrs, code: RouteOrigin)
 
 /// `community`.
 fn community(alloc: Global, attrs: &mut Attrs, added: u32) -> Result<(), NoMemory>
-    ensures { OnOk result (attrs.new ≡ with_community added attrs.old) }
+    ensures ok { OnOk result (attrs.new ≡ with_community added attrs.old) }
+    ensures err { OnErr result (attrs.new ≡ attrs.old) }
 {
     attrs.communities = placed(alloc, added, attrs.communities.as_slice())?;
     Ok(())
@@ -143,7 +149,8 @@ fn delete_community(
     attrs: &mut Attrs,
     pattern: CommunityPattern,
 ) -> Result<(), NoMemory>
-    ensures { OnOk result (attrs.new ≡ without_communities pattern attrs.old) }
+    ensures ok { OnOk result (attrs.new ≡ without_communities pattern attrs.old) }
+    ensures err { OnErr result (attrs.new ≡ attrs.old) }
 {
     let left = without(alloc, pattern, attrs.communities.as_slice())?;
     attrs.partial = partial_without(ALL_BUT_COMMUNITIES, left.len(), attrs.partial);
@@ -153,7 +160,8 @@ fn delete_community(
 
 /// `large-community`.
 fn large_community(alloc: Global, attrs: &mut Attrs, added: (u32, u32, u32)) -> Result<(), NoMemory>
-    ensures { OnOk result (attrs.new ≡ with_large added attrs.old) }
+    ensures ok { OnOk result (attrs.new ≡ with_large added attrs.old) }
+    ensures err { OnErr result (attrs.new ≡ attrs.old) }
 {
     attrs.large = large_placed(alloc, added, attrs.large.as_slice())?;
     Ok(())
@@ -165,7 +173,8 @@ fn delete_large_community(
     attrs: &mut Attrs,
     pattern: LargePattern,
 ) -> Result<(), NoMemory>
-    ensures { OnOk result (attrs.new ≡ without_large pattern attrs.old) }
+    ensures ok { OnOk result (attrs.new ≡ without_large pattern attrs.old) }
+    ensures err { OnErr result (attrs.new ≡ attrs.old) }
 {
     let left = large_without(alloc, pattern, attrs.large.as_slice())?;
     attrs.partial = partial_without(ALL_BUT_LARGE, left.len(), attrs.partial);

@@ -1,7 +1,7 @@
 use Rattle.std.proofs.Common.{◌∙◌}
 use Rattle.attr_model.specs.Valid.{large_cmp}
 use Rattle.std.proofs.lemmas.List.Filters.{dedup_is}
-use Rattle.attr_codec.proofs.Ascended.{large_total}
+use Rattle.attr_model.proofs.LargeOrder.{large_total}
 use Rattle.attr_codec.proofs.Ordered.{sorted_once, large_exact, large_ties}
 use Rattle.attr_codec.proofs.ascending.order_larges.Goals as goal
 
