@@ -21,7 +21,7 @@ use Rattle.attr_codec.specs.Path.{numbers_of, path_of}
 use Rattle.attr_codec.specs.Values.{origin_of, origin_said, path_said, as4_path_said}
 use Rattle.attr_codec.specs.Communities.{is_ragged, communities_of, communities_said, larges_said_of, large_said}
 use Rattle.attr_codec.specs.Parts.{with_as4_path, paths_said, lists_said}
-use Rattle.attr_codec.proofs.Ascended.{large_total}
+use Rattle.attr_model.proofs.LargeOrder.{large_total}
 use Rattle.attr_codec.proofs.Ascends.{none_sorted, ascending_sorted}
 use Rattle.attr_codec.proofs.PathsRead.{path_read, joined_is}
 

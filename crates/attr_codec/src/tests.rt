@@ -199,7 +199,9 @@ fn an_unknown_attribute_is_sent_on(rt: HostRuntime) -> Result<(), Fail> {
 fn route_of_1011(alloc: Global, last: u32) -> Result<Attrs, Fail> {
     let mut attrs = route_with_unknown(alloc)?;
     attrs.unknown.clear();
-    attrs.path.push(Segment::Sequence(Items::from_slice(alloc, &[last])?))?;
+    attrs
+        .path
+        .push(Segment::Sequence(Items::from_slice(alloc, &[last])?))?;
     for times in [128, 128, 128, 128, 128, 128, 128, 113, 1] {
         attrs.path.prepend(alloc, 65001, times)?;
     }

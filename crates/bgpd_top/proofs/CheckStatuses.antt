@@ -1,5 +1,5 @@
 -- Each status of a check has its cause.
-use Rattle.std.proofs.Common.{◌≡◌, ℕ, Bool, List, Option, None, Some, Result, Ok, Err, refl, sym, ap, ◌∙◌, arith, inl, inr, ◌⊎◌}
+use Rattle.std.proofs.Common.{◌≡◌, ℕ, Bool, List, Option, Result, Ok, Err, arith, inl, inr}
 use Rattle.std.specs.Prelude.{codes}
 use Rattle.net_base.specs.declared.conf.ConfFault.{ConfFault}
 use Rattle.bgpd_top.specs.Checking.{Checks, CountsCheck, CheckCauses, Refuses}

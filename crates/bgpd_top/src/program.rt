@@ -188,12 +188,7 @@ fn write_text<O: Sink>(out: &mut O, text: &str) -> Result<(), ServeFault>
 
 /// Serves the events of a source from its beginning; the answer is the status of the program.
 #[tactic(auto, using(crate::proofs::Causes::causes, crate::proofs::ServingLemmas::append_none))]
-fn replay<I: Source, O: Sink, E: Sink>(
-    alloc: Global,
-    input: &mut I,
-    out: &mut O,
-    err: &mut E,
-) -> u8
+fn replay<I: Source, O: Sink, E: Sink>(alloc: Global, input: &mut I, out: &mut O, err: &mut E) -> u8
     ensures { ReplayCauses result (option_map events_of_file (I.left input.old)) (O.written out.old) (O.written out.new)
         (I.faults input.old) (I.faults input.new) (O.faults out.old) (O.faults out.new)
         (Tells (E.faults err.old) (E.faults err.new) (E.written err.old) (E.written err.new)) }

@@ -235,4 +235,3 @@ module _ (conf : Conf) where
 
   pub origin_set_names_said : said origin_set_name_of (lines_back conf) ≡ map (λ s. s.name) conf.origin_sets
   origin_set_names_said = said_told origin_set_name_of conf ∙ all_told (listed origin_set_name_of) conf [] [] [] [] [] (map (λ s. s.name) conf.origin_sets) [] [] [] [] [] (no_qualify origin_set_name_of conf refl) origin_set_names_parts ∙ append-nil (map (λ s. s.name) conf.origin_sets)
-

@@ -36,7 +36,7 @@ module _ {K A : Type 0} (cmp : K → K → Ordering) where
   fresh_more o sorted [] e h others = tt
   fresh_more o sorted (x ∷ es) e h others = (
     insert_entry_form (λ q. eq_by_cmp cmp x.0 q ≡ false) (λ (v : A). Unit {0}) cmp sorted e.0 e.1 h.0 ((eq_by_cmp_equiv o).symm x.0 e.0 ∙ others.0) tt,
-    fresh_more o sorted es e h.1 others.1
+    fresh_more o sorted es e h.1 others.1,
   )
 
   all_fresh : (es : List (K × A)) → Each (λ x. IsFresh [] x.0) es

@@ -90,14 +90,14 @@ fn groups(
         push_group(&mut groups, attrs, plain)?;
         return Ok(groups);
     };
-    if prefixes.is_empty() {
+    if !prefixes.is_empty() {
+        if !plain.is_empty() {
+            push_group(&mut groups, attrs.clone()?, plain)?;
+        }
+        push_group(&mut groups, with_hop(attrs, hop), prefixes)?;
+    } else {
         push_group(&mut groups, attrs, plain)?;
-        return Ok(groups);
     }
-    if !plain.is_empty() {
-        push_group(&mut groups, attrs.clone()?, plain)?;
-    }
-    push_group(&mut groups, with_hop(attrs, hop), prefixes)?;
     Ok(groups)
 }
 

@@ -1,4 +1,4 @@
-use Rattle.std.proofs.Common.{◌≡◌, ◌++◌, drop, flat_map}
+use Rattle.std.proofs.Common.{◌≡◌, ◌++◌, flat_map}
 use Rattle.conf_tree.specs.Canonical.{group_text}
 use Rattle.conf_print.proofs.groups.print_groups.Given as goal
 
