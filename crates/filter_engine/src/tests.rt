@@ -245,6 +245,45 @@ const BEFORE: Look = Look {
     partial: 6,
 };
 
+impl Look {
+    fn local_pref(self, local_pref: u32) -> Look {
+        Look {
+            local_pref: Some(local_pref),
+            ..self
+        }
+    }
+
+    fn med(self, med: u32) -> Look {
+        Look {
+            med: Some(med),
+            ..self
+        }
+    }
+
+    fn weight(self, weight: u32) -> Look {
+        Look { weight, ..self }
+    }
+
+    fn length(self, length: u128) -> Look {
+        Look { length, ..self }
+    }
+
+    fn origin(self, origin: u8) -> Look {
+        Look { origin, ..self }
+    }
+
+    fn communities(self, first: u32, second: Option<u32>, third: Option<u32>) -> Look {
+        Look {
+            communities: (Some(first), second, third),
+            ..self
+        }
+    }
+
+    fn large(self, large: usize) -> Look {
+        Look { large, ..self }
+    }
+}
+
 fn seen_of(attrs: &Attrs) -> Look {
     let at = |index: usize| attrs.communities.get(index).copied();
     Look {
@@ -268,95 +307,32 @@ fn changed_by(alloc: Global, items: &[Item]) -> Result<Look, Fail> {
 
 #[test]
 fn items(rt: HostRuntime) -> Result<(), Fail> {
-    let two = BEFORE.communities;
-    let three = (two.0, Some(0x0001_0006), two.1);
     let first = CommunityPattern {
         high: Some(1),
         low: Some(5),
     };
-    let rows = [
-        (
-            Item::LocalPref(Change::Set(50)),
-            Look {
-                local_pref: Some(50),
-                ..BEFORE
-            },
-        ),
-        (
-            Item::LocalPref(Change::Add(5)),
-            Look {
-                local_pref: Some(105),
-                ..BEFORE
-            },
-        ),
-        (
-            Item::LocalPref(Change::Subtract(101)),
-            Look {
-                local_pref: Some(0),
-                ..BEFORE
-            },
-        ),
-        (
-            Item::Med(Change::Add(u32::MAX)),
-            Look {
-                med: Some(u32::MAX),
-                ..BEFORE
-            },
-        ),
-        (
-            Item::Med(Change::Subtract(5)),
-            Look {
-                med: Some(0),
-                ..BEFORE
-            },
-        ),
-        (
-            Item::Weight(Change::Add(3)),
-            Look {
-                weight: 3,
-                ..BEFORE
-            },
-        ),
-        (
-            Item::PrependSelf(3),
-            Look {
-                length: 7,
-                ..BEFORE
-            },
-        ),
-        (
-            Item::PrependNeighbor(1),
-            Look {
-                length: 5,
-                ..BEFORE
-            },
-        ),
-        (
-            Item::Origin(RouteOrigin::Incomplete),
-            Look {
-                origin: 2,
-                ..BEFORE
-            },
-        ),
+    for (item, after) in [
+        (Item::LocalPref(Change::Set(50)), BEFORE.local_pref(50)),
+        (Item::LocalPref(Change::Add(5)), BEFORE.local_pref(105)),
+        (Item::LocalPref(Change::Subtract(101)), BEFORE.local_pref(0)),
+        (Item::Med(Change::Add(u32::MAX)), BEFORE.med(u32::MAX)),
+        (Item::Med(Change::Subtract(5)), BEFORE.med(0)),
+        (Item::Weight(Change::Add(3)), BEFORE.weight(3)),
+        (Item::PrependSelf(3), BEFORE.length(7)),
+        (Item::PrependNeighbor(1), BEFORE.length(5)),
+        (Item::Origin(RouteOrigin::Incomplete), BEFORE.origin(2)),
         (
             Item::Community(0x0001_0006),
-            Look {
-                communities: three,
-                ..BEFORE
-            },
+            BEFORE.communities(0x0001_0005, Some(0x0001_0006), Some(0x0001_0007)),
         ),
         (Item::Community(0x0001_0007), BEFORE),
         (
             Item::DeleteCommunity(first),
-            Look {
-                communities: (two.1, None, None),
-                ..BEFORE
-            },
+            BEFORE.communities(0x0001_0007, None, None),
         ),
-        (Item::LargeCommunity(1, 2, 4), Look { large: 3, ..BEFORE }),
+        (Item::LargeCommunity(1, 2, 4), BEFORE.large(3)),
         (Item::NextHop(NextHop::Own), BEFORE),
-    ];
-    for (item, after) in rows {
+    ] {
         assert_eq!(rt; changed_by(rt.alloc(), &[item])?, after);
     }
     Ok(())
