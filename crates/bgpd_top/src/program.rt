@@ -1,4 +1,4 @@
-ghost use Rattle.std.specs.Prelude.{◌≡◌, ◌≢◌, ◌↔◌, ℕ, Bool, List, Some, None, Ok, Err, map, codes, option_map, OnOk, IfErr, string_bytes};
+ghost use Rattle.std.specs.Prelude.{◌≡◌, ◌↔◌, ℕ, Bool, List, Some, None, Ok, Err, map, codes, option_map, OnOk, IfErr, string_bytes};
 ghost use Rattle.std.specs.Io.KnownBytes.{append_known};
 ghost use Rattle.io_edge.specs.Faults.{CountsFailure};
 ghost use Rattle.bgpd_top.specs.Ahead.{events_of_file};
@@ -165,7 +165,6 @@ fn word_command(word: &[u8]) -> Option<Command>
 }
 
 /// Prints a text; the answer is the status of the program.
-#[tactic(auto, using(crate::proofs::Causes::prints))]
 fn print_text<O: Sink, E: Sink>(out: &mut O, err: &mut E, text: &str) -> u8
     ensures { PrintCauses result text.now (O.written out.old) (O.written out.new) (O.faults out.old) (O.faults out.new) }
 {
