@@ -1,32 +1,12 @@
 -- The first fault of a field, as a walk from the front finds it.
-use Rattle.std.proofs.Common.{◌≡◌, ◌∙◌, ℕ, zero, suc, ◌<◌, Bool, true, false, cond, eqb, ◌||◌, List, [], length, get_or, set, replicate, Option, Some, None, refl, ap, sym, get_or-set_other, get_or-set_same}
+use Rattle.std.proofs.Common.{◌≡◌, ◌∙◌, ℕ, ◌<◌, Bool, cond, List, [], length, Option, Some, None, refl, ap}
 use Rattle.std.specs.Option.{option_or}
-use Rattle.std.proofs.lemmas.Bool.{eqb-true, eqb-false}
 use Rattle.bgp_wire.specs.declared.open.Encoding.{Encoding}
 use Rattle.attr_codec.specs.Cut.{cut}
 use Rattle.attr_codec.specs.Field.{Attribute, attribute_at}
 use Rattle.attr_codec.specs.Fault.{attribute_fault, with_kind, first_fault, fault_with}
 use Rattle.attr_codec.proofs.Cutting.{cut_found, cut_lost, cut_end}
 use Rattle.attr_codec.proofs.Fields.{attribute_takes}
-
--- no type came before the first attribute
-none_came : (n kind : ℕ) → get_or (replicate n false) kind false ≡ false
-none_came zero kind = refl
-none_came (suc n) zero = refl
-none_came (suc n) (suc kind) = none_came n kind
-
-pub came_none : (n : ℕ) → ◌≡◌ {A = ℕ → Bool} (λ kind. get_or (replicate n false) kind false) (λ kind. false)
-came_none n = λ i kind. none_came n kind i
-
--- one type more
-more_by : (came : List Bool) (kind other : ℕ) → kind < length came → (b : Bool) → eqb kind other ≡ b → get_or (set came kind true) other false ≡ (b || get_or came other false)
-more_by came kind other h true e =
-    let same : kind ≡ other = eqb-true kind other e in
-    rw (← same) (get_or-set_same came kind true false h)
-more_by came kind other h false e = get_or-set_other came kind other true false (λ same. eqb-false kind other e (sym same))
-
-pub came_more : (came : List Bool) (kind : ℕ) → kind < length came → ◌≡◌ {A = ℕ → Bool} (λ other. get_or (set came kind true) other false) (with_kind (λ other. get_or came other false) kind)
-came_more came kind h = λ i other. more_by came kind other h (eqb kind other) refl i
 
 or_assoc : (x y z : Option ℕ) → option_or (option_or x y) z ≡ option_or x (option_or y z)
 or_assoc None y z = refl

@@ -1,5 +1,5 @@
 -- A field that was written says the attributes that were sent.
-use Rattle.std.proofs.Common.{◌≡◌, ◌∙◌, ℕ, Bool, true, false, cond, not, List, [], ◌∷◌, map, Option, Some, None, refl, ap, subst}
+use Rattle.std.proofs.Common.{◌≡◌, ◌∙◌, ℕ, Bool, true, false, cond, List, [], ◌∷◌, map, Option, Some, None, refl, ap, subst}
 use Rattle.std.specs.Prelude.{nat_eq, option_map, is_some}
 use Rattle.std.specs.Option.{option_or}
 use Rattle.byteorder.specs.Endian.{big_bytes}
@@ -35,13 +35,9 @@ atomic_said_is : (b : Bool) → (is_some (value_of (cond b (Value true) Nothing)
 atomic_said_is true = (refl, refl)
 atomic_said_is false = (refl, refl)
 
-dropped : (o : Option ℕ) → is_some o ≡ false → o ≡ None
-dropped None e = refl
-dropped (Some n) e = absurd cc
-
 pref_by : (enc : Encoding) (attrs : Attrs) (attributes : List Attribute) → IsSent enc attrs → Holds enc attrs attributes → (b : Bool) → enc.external ≡ b → local_pref_said b attributes ≡ as_said attrs.local_pref
 pref_by enc attrs attributes is holds true e =
-    let none : attrs.local_pref ≡ None = dropped attrs.local_pref (is.local_pref ∙ ap not e) in
+    let none : attrs.local_pref ≡ None = is.local_pref e in
     rw none refl
 pref_by enc attrs attributes is holds false e = number_back WellKnown 64 5 attrs.local_pref attributes is.width.local_pref (holds.known 5 refl refl) refl refl
 

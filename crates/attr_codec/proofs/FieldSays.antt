@@ -88,37 +88,37 @@ no_reach enc attributes e = record { says = rw e refl; good = rw e refl }
 abbrev numbers_of_attrs : Attrs → Numbers
 numbers_of_attrs attrs = record { med = attrs.med; local_pref = attrs.local_pref; atomic = attrs.atomic; malformed = false }
 
-attrs_from : (enc : Encoding) (attrs : Attrs) (attributes : List Attribute) (o : Option ℕ) (n : Numbers) (p : Paths) (l : Lists) → o ≡ Some attrs.origin → n ≡ numbers_of_attrs attrs → p ≡ good_paths attrs → l ≡ good_lists attrs
-    → partial_bits (good_paths attrs) (good_lists attrs) attributes ≡ attrs.«partial» → attrs_with attrs.hop o p.path n p l (partial_bits p l attributes) ≡ Some (record attrs { weight = 0 })
-attrs_from enc attrs attributes o n p l eo en ep el bits =
-    ap (λ (x : Option ℕ). attrs_with attrs.hop x p.path n p l (partial_bits p l attributes)) eo
-    ∙ ap (λ (x : Numbers). attrs_with attrs.hop (Some attrs.origin) p.path x p l (partial_bits p l attributes)) en
-    ∙ ap (λ (x : Paths). attrs_with attrs.hop (Some attrs.origin) x.path (numbers_of_attrs attrs) x l (partial_bits x l attributes)) ep
-    ∙ ap (λ (x : Lists). attrs_with attrs.hop (Some attrs.origin) (Some attrs.path) (numbers_of_attrs attrs) (good_paths attrs) x (partial_bits (good_paths attrs) x attributes)) el
-    ∙ ap (λ (x : ℕ). attrs_with attrs.hop (Some attrs.origin) (Some attrs.path) (numbers_of_attrs attrs) (good_paths attrs) (good_lists attrs) x) bits
+attrs_from : (enc : Encoding) (hop : Addr) (attrs : Attrs) (attributes : List Attribute) (o : Option ℕ) (n : Numbers) (p : Paths) (l : Lists) → o ≡ Some attrs.origin → n ≡ numbers_of_attrs attrs → p ≡ good_paths attrs → l ≡ good_lists attrs
+    → partial_bits (good_paths attrs) (good_lists attrs) attributes ≡ attrs.«partial» → attrs_with hop o p.path n p l (partial_bits p l attributes) ≡ Some (record attrs { hop = hop; weight = 0 })
+attrs_from enc hop attrs attributes o n p l eo en ep el bits =
+    ap (λ (x : Option ℕ). attrs_with hop x p.path n p l (partial_bits p l attributes)) eo
+    ∙ ap (λ (x : Numbers). attrs_with hop (Some attrs.origin) p.path x p l (partial_bits p l attributes)) en
+    ∙ ap (λ (x : Paths). attrs_with hop (Some attrs.origin) x.path (numbers_of_attrs attrs) x l (partial_bits x l attributes)) ep
+    ∙ ap (λ (x : Lists). attrs_with hop (Some attrs.origin) (Some attrs.path) (numbers_of_attrs attrs) (good_paths attrs) x (partial_bits (good_paths attrs) x attributes)) el
+    ∙ ap (λ (x : ℕ). attrs_with hop (Some attrs.origin) (Some attrs.path) (numbers_of_attrs attrs) (good_paths attrs) (good_lists attrs) x) bits
 
 none_from : (b : Bool) (n : Numbers) (p : Paths) (l : Lists) (attrs : Attrs) → b ≡ false → n ≡ numbers_of_attrs attrs → p ≡ good_paths attrs → l ≡ good_lists attrs → (((b || n.malformed) || p.malformed) || l.malformed) ≡ false
 none_from b n p l attrs eb en ep el = rw (eb, en, ep, el) refl
 
-attrs_back : (enc : Encoding) (attrs : Attrs) (attributes : List Attribute) → IsSent enc attrs → Holds enc attrs attributes → (attrs_said enc attrs.hop attributes ≡ Some attrs) × (is_route_malformed enc attributes ≡ false)
-attrs_back enc attrs attributes is holds =
+attrs_back : (enc : Encoding) (hop : Addr) (attrs : Attrs) (attributes : List Attribute) → IsSent enc attrs → Holds enc attrs attributes → (attrs_said enc hop attributes ≡ Some (record attrs { hop = hop })) × (is_route_malformed enc attributes ≡ false)
+attrs_back enc hop attrs attributes is holds =
     let origin : origin_said attributes ≡ Value attrs.origin = origin_back attrs.origin attributes is.valid.origin (holds.known 1 refl refl) in
     let numbers = numbers_are enc attrs attributes is holds in
     let paths = paths_are enc attrs attributes is holds in
     let lists = lists_are enc attrs attributes is holds in
     let bits = partial_is enc attrs attributes is holds in (
-      attrs_from enc attrs attributes (value_of (origin_said attributes)) (numbers_said enc.external attributes) (paths_said enc.as4 attributes) (lists_said attributes) (ap value_of origin) numbers paths lists bits ∙ ap (λ w. Some (record attrs { weight = w })) (sym is.weight),
+      attrs_from enc hop attrs attributes (value_of (origin_said attributes)) (numbers_said enc.external attributes) (paths_said enc.as4 attributes) (lists_said attributes) (ap value_of origin) numbers paths lists bits ∙ ap (λ w. Some (record attrs { hop = hop; weight = w })) (sym is.weight),
       none_from (is_malformed (origin_said attributes)) (numbers_said enc.external attributes) (paths_said enc.as4 attributes) (lists_said attributes) attrs (ap is_malformed origin) numbers paths lists,
     )
 
-say_back : (enc : Encoding) (attrs : Attrs) (attributes : List Attribute) (hop : Option Addr) (reach : Option (Family × Addr × List Prefix)) → IsSent enc attrs → Holds enc attrs attributes
-    → SaysHop attributes hop → SaysReach enc attributes reach → hop_of hop reach ≡ attrs.hop → first_of 15 attributes ≡ None
-    → attributes_say enc attributes ≡ record { attrs = Some attrs; withdraw = false; next_hop = hop; reach = reach; unreach = None }
+say_back : (enc : Encoding) (at : Addr) (attrs : Attrs) (attributes : List Attribute) (hop : Option Addr) (reach : Option (Family × Addr × List Prefix)) → IsSent enc attrs → Holds enc attrs attributes
+    → SaysHop attributes hop → SaysReach enc attributes reach → hop_of hop reach ≡ at → first_of 15 attributes ≡ None
+    → attributes_say enc attributes ≡ record { attrs = Some (record attrs { hop = at }); withdraw = false; next_hop = hop; reach = reach; unreach = None }
 unfolding attributes_say
-say_back enc attrs attributes hop reach is holds next mp same none =
-    let route = attrs_back enc attrs attributes is holds in
-    let hop_is : hop_of (next_hop_of attributes) (reach_said enc attributes) ≡ attrs.hop = rw (next.says, mp.says) same in
-    let said : attrs_said enc (hop_of (next_hop_of attributes) (reach_said enc attributes)) attributes ≡ Some attrs = ap (λ (h : Addr). attrs_said enc h attributes) hop_is ∙ route.0 in
+say_back enc at attrs attributes hop reach is holds next mp same none =
+    let route = attrs_back enc at attrs attributes is holds in
+    let hop_is : hop_of (next_hop_of attributes) (reach_said enc attributes) ≡ at = rw (next.says, mp.says) same in
+    let said : attrs_said enc (hop_of (next_hop_of attributes) (reach_said enc attributes)) attributes ≡ Some (record attrs { hop = at }) = ap (λ (h : Addr). attrs_said enc h attributes) hop_is ∙ route.0 in
     let bad : is_unreach_malformed enc attributes ≡ false = rw none refl in
     let withdrawn : unreach_said enc attributes ≡ None = rw none refl in
     let malformed : is_some_malformed enc attributes ≡ false = rw (route.1, next.good, mp.good, bad) refl in
@@ -136,10 +136,23 @@ plain_back enc attrs is e =
     let holds = holds_plain enc attrs is.valid in
     let next = says_v4 enc attrs attributes e holds in
     let no_mp : first_of 14 attributes ≡ None = found_at 14 (attrs_rows enc attrs) ∙ known_at enc attrs 14 refl is.valid.unknown_types in
-    let say = say_back enc attrs attributes (Some attrs.hop) None is holds next (no_reach enc attributes no_mp) refl (holds.known 15 refl refl) in
+    let say = say_back enc attrs.hop attrs attributes (Some attrs.hop) None is holds next (no_reach enc attributes no_mp) refl (holds.known 15 refl refl) in
     let quiet = quiet_rows enc (attrs_rows enc attrs) (all_quiet enc attrs is.valid.unknown_types) (λ kind. false) in
     says_cut enc (rows_bytes (attrs_rows enc attrs)) attributes (sent attrs None) (rows_cut (attrs_rows enc attrs) (all_good enc attrs is.short is.width)) quiet
     (say ∙ ap (λ (h : Option Addr). record { attrs = Some attrs; withdraw = false; next_hop = h; reach = None; unreach = None }) (ap (next_hop_sent attrs.hop) (sym e)))
+
+-- Attributes of IPv6 without prefixes say no hop.
+pub bare_back : (enc : Encoding) (attrs : Attrs) → IsSent enc attrs → attrs.hop.family ≡ V6
+    → field_says enc (attrs_bytes enc attrs) ≡ Ok (record { attrs = Some (record attrs { hop = addr_of V4 0 }); withdraw = false; next_hop = None; reach = None; unreach = None })
+unfolding attrs_bytes
+bare_back enc attrs is e =
+    let attributes = rows_attributes (attrs_rows enc attrs) in
+    let holds = holds_plain enc attrs is.valid in
+    let next = says_v6 enc attrs attributes e holds in
+    let no_mp : first_of 14 attributes ≡ None = found_at 14 (attrs_rows enc attrs) ∙ known_at enc attrs 14 refl is.valid.unknown_types in
+    let say = say_back enc (addr_of V4 0) attrs attributes None None is holds next (no_reach enc attributes no_mp) refl (holds.known 15 refl refl) in
+    let quiet = quiet_rows enc (attrs_rows enc attrs) (all_quiet enc attrs is.valid.unknown_types) (λ kind. false) in
+    says_cut enc (rows_bytes (attrs_rows enc attrs)) attributes _ (rows_cut (attrs_rows enc attrs) (all_good enc attrs is.short is.width)) quiet say
 
 -- ---- MP_REACH_NLRI and MP_UNREACH_NLRI
 
@@ -201,7 +214,7 @@ reach_back enc attrs prefixes is e v6 each short =
     let next = says_v6 enc attrs attributes e holds in
     let found : first_of 14 attributes ≡ Some (attribute_of 128 14 value) = found_at 14 (front ∷ attrs_rows enc attrs) in
     let mp = says_reach enc attrs.hop prefixes attributes v6 e each found in
-    let say = say_back enc attrs attributes None (Some (V6, attrs.hop, prefixes)) is holds next mp refl (holds.known 15 refl refl) in
+    let say = say_back enc attrs.hop attrs attributes None (Some (V6, attrs.hop, prefixes)) is holds next mp refl (holds.known 15 refl refl) in
     let quiet : first_fault enc (λ kind. false) attributes ≡ None = rw (judged_back enc attrs.hop.bits prefixes v6 each) (quiet_rows enc (attrs_rows enc attrs) (all_quiet enc attrs is.valid.unknown_types) (with_kind (λ kind. false) 14)) in
     let fits_value : IsShort value = omega arith in
     says_cut enc (rows_bytes (front ∷ attrs_rows enc attrs)) attributes (sent attrs (Some (V6, attrs.hop, prefixes))) (rows_cut (front ∷ attrs_rows enc attrs) (record { one = refl; two = refl; short = fits_value }, all_good enc attrs is.short is.width)) quiet

@@ -11,7 +11,7 @@ use Rattle.net_base.specs.Width.{width_of}
 use Rattle.net_base.specs.Bits.{prefix_of}
 use Rattle.attr_codec.specs.Prefixes.{addr_with, prefix_at}
 use Rattle.attr_codec.specs.Large.{large_at}
-use Rattle.attr_codec.specs.Path.{as_size, numbers_of, segment_of, segment_parts_at, segment_at}
+use Rattle.attr_codec.specs.Path.{as_size, numbers_in, segment_of, segment_parts_at, segment_at}
 use Rattle.attr_codec.proofs.Cutting.{TakesBytes}
 
 pub guarded : {A : Type 0} (b : Bool) (y x : A) → cond b None (Some y) ≡ Some x → (b ≡ false) × (y ≡ x)
@@ -56,7 +56,7 @@ pub segment_takes : (as4 : Bool) → TakesBytes (segment_at as4)
 unfolding segment_at segment_parts_at
 segment_takes as4 bytes e h =
     option_and_then_some _ (segment_parts_at as4 bytes) e h (λ parts hp h1.
-    option_and_then_some _ (segment_of parts.0.0 (numbers_of (as_size as4) parts.0.1)) e h1 (λ segment hs h2.
+    option_and_then_some _ (segment_of parts.0.0 (numbers_in (as_size as4) parts.0.1)) e h1 (λ segment hs h2.
     option_and_then_some _ (number_at 1 bytes) parts hp (λ kind hk h3.
     option_and_then_some _ (number_at 1 kind.1) parts h3 (λ count hc h4.
     option_and_then_some _ (bytes_at (count.0 * as_size as4) count.1) parts h4 (λ numbers hn h5.

@@ -10,7 +10,7 @@ use Rattle.attr_model.specs.declared.path.Segment.{Segment}
 use Rattle.attr_model.specs.declared.path.Segment.TheVariants.{Set, Sequence}
 use Rattle.attr_model.specs.Valid.{numbers_of as listed, IsSegment, IsPath}
 use Rattle.attr_codec.specs.Cut.{Cut, behind, cut, all_items}
-use Rattle.attr_codec.specs.Path.{as_size, numbers_of, segment_of, segment_parts_at, segment_at, path_of, exceeds, told_as, as_bytes, kind_of_segment, segment_bytes, path_bytes}
+use Rattle.attr_codec.specs.Path.{as_size, numbers_in, segment_of, segment_parts_at, segment_at, path_of, exceeds, told_as, as_bytes, kind_of_segment, segment_bytes, path_bytes}
 use Rattle.attr_codec.specs.Large.{large_at, larges_of}
 use Rattle.attr_codec.specs.Written.{large_bytes}
 use Rattle.attr_codec.specs.Field.{Attribute, length_size, attribute_at, attribute_bytes, HasItsLength}
@@ -52,10 +52,10 @@ pub as_back : (as4 : Bool) (n : ℕ) (rest : List ℕ) → IsNumber n → number
 as_back true n rest fit = number_at-written 4 n rest fit
 as_back false n rest fit = number_at-written 2 (told_as false n) rest (told_fits n (exceeds n) refl)
 
-pub numbers_back : (as4 : Bool) (ns : List ℕ) → AreNumbers ns → numbers_of (as_size as4) (flat_map (as_bytes as4) ns) ≡ map (told_as as4) ns
+pub numbers_back : (as4 : Bool) (ns : List ℕ) → AreNumbers ns → numbers_in (as_size as4) (flat_map (as_bytes as4) ns) ≡ map (told_as as4) ns
 numbers_back as4 ns fit = items_written (number_at (as_size as4)) (as_takes as4) (as_bytes as4) (told_as as4) IsNumber (as_back as4) ns fit
 
-pub u32s_back : (ns : List ℕ) → AreNumbers ns → numbers_of 4 (flat_map (big_bytes 4) ns) ≡ ns
+pub u32s_back : (ns : List ℕ) → AreNumbers ns → numbers_in 4 (flat_map (big_bytes 4) ns) ≡ ns
 u32s_back ns fit = items_written (number_at 4) (number_takes 4 (lit< tt)) (big_bytes 4) (λ n. n) IsNumber (λ n rest h. number_at-written 4 n rest h) ns fit ∙ map_id ns
 
 -- ---- large communities

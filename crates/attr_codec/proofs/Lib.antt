@@ -26,3 +26,6 @@ pub mod ValuesRead
 pub mod UnknownRead
 pub mod PartialRead
 pub mod ReadValid
+pub mod Frames
+pub mod Noting
+pub mod Joined

@@ -11,7 +11,7 @@ use Rattle.attr_model.specs.declared.path.Segment.TheVariants.{Set, Sequence}
 use Rattle.attr_model.specs.Path.{count_of, path_length}
 use Rattle.attr_model.specs.Valid.{IsSegment, IsPath}
 use Rattle.attr_codec.specs.Cut.{Cut, all_cut, cut_short, cut_in, cut}
-use Rattle.attr_codec.specs.Path.{as_size, numbers_of, segment_of, segment_parts_at, segment_at, path_of}
+use Rattle.attr_codec.specs.Path.{as_size, numbers_in, segment_of, segment_parts_at, segment_at, path_of}
 use Rattle.attr_codec.specs.Values.{leading_part, leading, joined_paths}
 use Rattle.attr_codec.proofs.Appends.{all_append}
 use Rattle.attr_codec.proofs.Bytes.{number_rest, field_parts}
@@ -41,11 +41,11 @@ room_in size zero bytes = front_by size bytes (length bytes == 0) cut_short (ome
 room_in size (suc n) bytes =
     front_by size bytes (length bytes == 0) (cut_by (cut_in (number_at size) n) (number_at size bytes)) (room_by size bytes (cut_in (number_at size) n) (λ more. room_in size n more) (number_at size bytes) refl)
 
-room : (size : ℕ) (bytes : List ℕ) → length (numbers_of size bytes) * size ≤ length bytes
+room : (size : ℕ) (bytes : List ℕ) → length (numbers_in size bytes) * size ≤ length bytes
 unfolding cut
 room size bytes = room_in size (length bytes) bytes
 
-few_numbers : (as4 : Bool) (count : ℕ) (bytes : List ℕ) → length bytes ≡ count * as_size as4 → length (numbers_of (as_size as4) bytes) ≤ count
+few_numbers : (as4 : Bool) (count : ℕ) (bytes : List ℕ) → length bytes ≡ count * as_size as4 → length (numbers_in (as_size as4) bytes) ≤ count
 few_numbers true count bytes e = omega (arith, room 4 bytes)
 few_numbers false count bytes e = omega (arith, room 2 bytes)
 
@@ -59,7 +59,7 @@ field_length n bytes x e =
 
 -- the parts of a segment
 pub record AreParts (as4 : Bool) (x : (ℕ × List ℕ) × List ℕ) : Type 0 where
-  pub few : length (numbers_of (as_size as4) x.0.1) ≤ 255
+  pub few : length (numbers_in (as_size as4) x.0.1) ≤ 255
   pub rest : AreBytes x.1
 
 first_byte : (bytes : List ℕ) (x : ℕ × List ℕ) → AreBytes bytes → number_at 1 bytes ≡ Some x → x.0 < 256
@@ -95,9 +95,9 @@ segment_read : (as4 : Bool) (bytes : List ℕ) (found : Segment × List ℕ) →
 unfolding segment_at
 segment_read as4 bytes found are e =
     option_and_then_some _ (segment_parts_at as4 bytes) found e (λ parts hp h1.
-    option_and_then_some _ (segment_of parts.0.0 (numbers_of (as_size as4) parts.0.1)) found h1 (λ segment hs h2.
+    option_and_then_some _ (segment_of parts.0.0 (numbers_in (as_size as4) parts.0.1)) found h1 (λ segment hs h2.
     let is = parts_are as4 bytes parts are hp in
-    let one = segment_is parts.0.0 (numbers_of (as_size as4) parts.0.1) segment is.few hs in
+    let one = segment_is parts.0.0 (numbers_in (as_size as4) parts.0.1) segment is.few hs in
     let same : (segment, parts.1) ≡ found = cc in
     rw (← same) (one, is.rest)))
 

@@ -44,11 +44,11 @@ low_zero x a b h z =
     let all : x % 2 ^ ((a - b) + b) ≡ 0 = ap (λ n. x % 2 ^ n) sum ∙ z in
     omega (arith, mod-pow-add x (a - b) b)
 
-width_is : (family : Family) → width_of family ≡ 8 * octet_count family
+pub width_is : (family : Family) → width_of family ≡ 8 * octet_count family
 width_is V4 = refl
 width_is V6 = refl
 
-octets_back : (family : Family) (len bits : ℕ) → len ≤ width_of family → bits < 2 ^ width_of family → bits % 2 ^ (width_of family - len) ≡ 0
+pub octets_back : (family : Family) (len bits : ℕ) → len ≤ width_of family → bits < 2 ^ width_of family → bits % 2 ^ (width_of family - len) ≡ 0
     → big_number (octet_count family) (take ((len + 7) / 8) (addr_bytes family bits)) ≡ bits
 octets_back family len bits within fits z =
     let w = width_is family in
@@ -59,7 +59,7 @@ octets_back family len bits within fits z =
     let most : 256 ^ octet_count family ≡ 2 ^ width_of family = pow256 (octet_count family) ∙ ap (λ n. 2 ^ n) (sym w) in
     front_number (octet_count family) k bits few behind ∙ ap (λ m. bits % m) most ∙ mod-eq_of_lt fits
 
-read_back : (p : Prefix) → prefix_of (addr_with p.family (take ((p.len + 7) / 8) (addr_bytes p.family p.bits))) p.len ≡ p
+pub read_back : (p : Prefix) → prefix_of (addr_with p.family (take ((p.len + 7) / 8) (addr_bytes p.family p.bits))) p.len ≡ p
 read_back p =
     let octets = octets_back p.family p.len p.bits p.within p.in_family p.host_bits_zero in
     let bits : big_number (octet_count p.family) (take ((p.len + 7) / 8) (addr_bytes p.family p.bits)) % 2 ^ width_of p.family ≡ p.bits = ap (λ b. b % 2 ^ width_of p.family) octets ∙ mod-eq_of_lt p.in_family in
@@ -79,7 +79,7 @@ prefix_there p rest =
     let long : length octets ≡ (p.len + 7) / 8 = omega (arith, length-take ((p.len + 7) / 8) (addr_bytes p.family p.bits)) in
     rw (byte_there p.len (octets ++ rest), size, bytes_at-written ((p.len + 7) / 8) octets rest long, read_back p) refl
 
-prefix_back : (family : Family) (p : Prefix) (rest : List ℕ) → p.family ≡ family → prefix_at family (prefix_bytes p ++ rest) ≡ Some (p, rest)
+pub prefix_back : (family : Family) (p : Prefix) (rest : List ℕ) → p.family ≡ family → prefix_at family (prefix_bytes p ++ rest) ≡ Some (p, rest)
 prefix_back family p rest e = ap (λ f. prefix_at f (prefix_bytes p ++ rest)) (sym e) ∙ prefix_there p rest
 
 pub prefixes_back : (family : Family) (ps : List Prefix) → AllByRecursion (λ p. p.family ≡ family) ps → prefixes_of family (prefixes_bytes ps) ≡ Some ps

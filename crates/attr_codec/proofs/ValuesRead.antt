@@ -17,7 +17,7 @@ use Rattle.attr_codec.specs.Field.{Attribute, is_of, first_of}
 use Rattle.attr_codec.specs.Flags.{fits}
 use Rattle.attr_codec.specs.Large.{larges_of}
 use Rattle.attr_codec.specs.Said.{◌>>=◌, or_malformed, or_dropped, value_of, bytes_with, bytes_said}
-use Rattle.attr_codec.specs.Path.{numbers_of, path_of}
+use Rattle.attr_codec.specs.Path.{numbers_in, path_of}
 use Rattle.attr_codec.specs.Values.{origin_of, origin_said, path_said, as4_path_said}
 use Rattle.attr_codec.specs.Communities.{is_ragged, communities_of, communities_said, larges_said_of, large_said}
 use Rattle.attr_codec.specs.Parts.{with_as4_path, paths_said, lists_said}
@@ -116,7 +116,7 @@ communities_are : (attributes : List Attribute) → IfSome (value_of (communitie
 unfolding communities_said
 communities_are attributes =
     has_to (IsStrictlySortedBy nat_cmp) communities_of (bytes_said (fits OptionalTransitive) 8 attributes)
-    (λ value e. list_by (IsStrictlySortedBy nat_cmp) (is_ragged 4 value) (ascending nat_cmp (numbers_of 4 value)) (ascending_sorted nat_cmp nat_cmp_total (numbers_of 4 value)))
+    (λ value e. list_by (IsStrictlySortedBy nat_cmp) (is_ragged 4 value) (ascending nat_cmp (numbers_in 4 value)) (ascending_sorted nat_cmp nat_cmp_total (numbers_in 4 value)))
 
 larges_are : (attributes : List Attribute) → IfSome (value_of (large_said attributes)) (IsStrictlySortedBy large_cmp)
 unfolding large_said

@@ -9,7 +9,7 @@ use Rattle.attr_codec.specs.Ascending.{ascending}
 use Rattle.attr_codec.specs.Large.{larges_of}
 use Rattle.attr_codec.specs.Field.{Attribute}
 use Rattle.attr_codec.specs.Flags.{fits}
-use Rattle.attr_codec.specs.Path.{numbers_of}
+use Rattle.attr_codec.specs.Path.{numbers_in}
 use Rattle.attr_codec.specs.Said.{◌>>=◌, or_malformed, bytes_said}
 
 -- whether a value is made of some whole items of this size
@@ -17,7 +17,7 @@ abbrev pub is_ragged : ℕ → List ℕ → Bool
 is_ragged size value = (length value == 0) || not (length value % size == 0)
 
 abbrev pub communities_of : List ℕ → Option (List ℕ)
-communities_of value = if is_ragged 4 value then None else Some (ascending nat_cmp (numbers_of 4 value))
+communities_of value = if is_ragged 4 value then None else Some (ascending nat_cmp (numbers_in 4 value))
 
 unfoldable pub communities_said : List Attribute → Said (List ℕ)
 communities_said attributes = do

@@ -11,6 +11,9 @@ pub record Attribute : Type 0 where
   pub kind : ℕ
   pub value : List ℕ
 
+abbrev pub Attributes : Type 0
+Attributes = List Attribute
+
 -- How many bytes the length has: two where the flag bit of the extended length is set.
 abbrev pub length_size : ℕ → ℕ
 length_size flags = if bit_and flags 16 == 0 then 1 else 2

@@ -18,3 +18,5 @@ pub mod Written
 pub mod Size
 pub mod Width
 pub mod ReadBack
+pub mod Frame
+pub mod Noted

@@ -13,8 +13,8 @@ abbrev pub as_size : Bool → ℕ
 as_size as4 = if as4 then 4 else 2
 
 -- the numbers of so many bytes that stand whole in a field
-abbrev pub numbers_of : ℕ → List ℕ → List ℕ
-numbers_of size bytes = (cut (number_at size) bytes).items
+abbrev pub numbers_in : ℕ → List ℕ → List ℕ
+numbers_in size bytes = (cut (number_at size) bytes).items
 
 -- A segment of type 1 is a set and one of type 2 a sequence. There is no other, and none without numbers.
 abbrev pub segment_of : ℕ → List ℕ → Option Segment
@@ -33,7 +33,7 @@ segment_parts_at as4 bytes = do
 unfoldable pub segment_at : Bool → List ℕ → Option (Segment × List ℕ)
 segment_at as4 bytes = do
   parts ← segment_parts_at as4 bytes
-  segment ← segment_of parts.0.0 (numbers_of (as_size as4) parts.0.1)
+  segment ← segment_of parts.0.0 (numbers_in (as_size as4) parts.0.1)
   Some (segment, parts.1)
 
 -- The path that a value is, or None where it is malformed.

@@ -1,5 +1,5 @@
 -- What a peer reads from the attributes that were sent to it.
-use Rattle.std.specs.Prelude.{◌≡◌, ℕ, false, not, List, ◌++◌, Option, Some, None, is_some}
+use Rattle.std.specs.Prelude.{◌≡◌, ℕ, true, false, List, ◌++◌, Option, Some, None}
 use Rattle.net_base.specs.declared.addr.Family.{Family}
 use Rattle.net_base.specs.declared.addr.Family.TheVariants.{V4, V6}
 use Rattle.net_base.specs.declared.addr.Addr.{Addr}
@@ -11,13 +11,13 @@ use Rattle.attr_codec.specs.declared.outcome.ReadAttrs.{ReadAttrs}
 use Rattle.attr_codec.specs.Written.{HaveShortValues, row_bytes, reach_row, attrs_bytes}
 use Rattle.attr_codec.specs.Width.{HaveWidth}
 
--- Attributes that are read back as they were sent. Lost is a weight, and so is a LOCAL_PREF to an external peer.
+-- Attributes that are read back as they were sent. Lost is a weight, and so is a LOCAL_PREF to an external peer, which has none.
 pub record IsSent (enc : Encoding) (attrs : Attrs) : Type 0 where
   pub valid : IsValid attrs
   pub short : HaveShortValues enc attrs
   pub width : HaveWidth attrs
   pub weight : attrs.weight ≡ 0
-  pub local_pref : is_some attrs.local_pref ≡ not enc.external
+  pub local_pref : enc.external ≡ true → attrs.local_pref ≡ None
 
 -- the hop that stands in NEXT_HOP
 abbrev pub next_hop_sent : Addr → Family → Option Addr

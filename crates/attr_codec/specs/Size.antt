@@ -15,9 +15,13 @@ abbrev pub nlri_size : Family → ℕ → ℕ
 nlri_size V4 n = n
 nlri_size V6 n = attribute_size (21 + n)
 
--- The header of the message has 19 bytes, and the two lengths have 2 each.
+-- The UPDATE that announces prefixes of a family with attributes of so many bytes. The header of the message has 19 bytes, and the
+-- two lengths have 2 each.
+abbrev pub announced_size : Family → ℕ → ℕ → ℕ
+announced_size family attributes nlri = 23 + (attributes + nlri_size family nlri)
+
 abbrev pub update_size : Encoding → Attrs → ℕ → ℕ
-update_size enc attrs nlri = 23 + (length (attrs_bytes enc attrs) + nlri_size attrs.hop.family nlri)
+update_size enc attrs nlri = announced_size attrs.hop.family (length (attrs_bytes enc attrs)) nlri
 
 -- The same as an answer, which is at most the greatest usize.
 abbrev pub capped : ℕ → ℕ

@@ -1,13 +1,11 @@
-//! The attribute field of an UPDATE, one attribute after the other.
+//! One attribute of the attribute field of an UPDATE.
 
-ghost use Rattle.std.specs.Prelude.{◌≡◌, ◌<◌, Some, None, length, MatchResult, MatchOption, IfOk, option_map, IsTrue, ◌↔◌};
+ghost use Rattle.std.specs.Prelude.{◌≡◌, ◌<◌, Some, None, length, MatchResult, IfOk};
 ghost use Rattle.wire_buf.specs.Field.{Reads, number_at};
-ghost use Rattle.attr_codec.specs.Field.{attribute_at, attributes_of, first_of, length_size};
+ghost use Rattle.attr_codec.specs.Field.{attribute_at, length_size};
 
+use crate::flag;
 use wire_buf::{Cursor, Short};
-
-/// The flag bit that says that the length has two bytes (RFC 4271 section 4.3).
-const LONG_LENGTH: u8 = 0x10;
 
 /// One attribute as it stands in the field.
 #[derive(Clone, Copy)]
@@ -33,26 +31,13 @@ pub(crate) fn next_attribute<'a>(left: &mut Cursor<'a>) -> Result<Attribute<'a>,
     Ok(Attribute { flags, kind, value })
 }
 
-// The length of a value, in one byte or in two.
+/// The length of a value, in one byte or in two.
 fn length_of(left: &mut Cursor<'_>, flags: u8) -> Result<usize, Short>
     ensures { Reads (number_at (length_size flags)) left.old left.new result }
 {
-    if flags & LONG_LENGTH == 0 {
+    if flags & flag::LONG_LENGTH == 0 {
         Ok(usize::from(left.u8()?))
     } else {
         Ok(usize::from(left.u16()?))
     }
-}
-
-/// The first attribute of a type among those that stand whole in the field.
-pub(crate) fn first_of<'a>(field: &'a [u8], kind: u8) -> Option<Attribute<'a>>
-    ensures { option_map (λ a. record { flags = a.flags; kind = a.kind; value = a.value.now }) result ≡ first_of kind (attributes_of field.now) }
-{
-    let mut left = Cursor::new(field);
-    while let Ok(attribute) = next_attribute(&mut left) {
-        if attribute.kind == kind {
-            return Some(attribute);
-        }
-    }
-    None
 }

@@ -34,19 +34,9 @@ fn leading_segments(alloc: Global, surplus: u128, segments: &[Segment]) -> Resul
             return Ok(path);
         }
         path.push(part_of(alloc, left, segment)?)?;
-        left = left.saturating_sub(count(segment));
+        left = left.saturating_sub(segment.weight() as u128);
     }
     Ok(path)
-}
-
-// The numbers that a segment counts.
-fn count(segment: &Segment) -> u128
-    ensures { result ≡ count_of segment.now }
-{
-    match segment {
-        Segment::Set(_) => 1,
-        Segment::Sequence(numbers) => numbers.len() as u128,
-    }
 }
 
 // A set as a whole, or as much of a sequence as the surplus has.

@@ -1,5 +1,6 @@
 ghost use Rattle.std.specs.Prelude.{◌≡◌, ◌≤◌, ◌+◌, ℕ, List, [], true, Ok, Some, None, length, IfSome, IfOk};
 ghost use Rattle.std.specs.List.{AllByRecursion};
+ghost use Rattle.net_base.specs.declared.addr.Addr.{Addr};
 ghost use Rattle.net_base.specs.declared.addr.Family.{Family};
 ghost use Rattle.net_base.specs.declared.addr.Family.TheVariants.{V4, V6};
 ghost use Rattle.net_base.specs.declared.prefix.Prefix.{Prefix};
@@ -8,7 +9,11 @@ ghost use Rattle.bgp_wire.specs.declared.open.Encoding.{Encoding};
 ghost use Rattle.attr_model.specs.declared.attrs.Attrs.{Attrs};
 ghost use Rattle.attr_model.specs.Valid.{IsValid};
 ghost use Rattle.attr_codec.specs.Cut.{Cut, cut};
+ghost use Rattle.attr_codec.specs.Frame.{frame_attrs_bytes, IsFramed, frame_attrs_of, IsFrameOf};
 ghost use Rattle.attr_codec.specs.Field.{Attribute, attribute_at, Spells};
+ghost use Rattle.attr_model.specs.declared.path.Segment.{Segment};
+ghost use Rattle.attr_model.specs.Path.{path_length};
+ghost use Rattle.attr_codec.specs.Values.{joined_paths};
 ghost use Rattle.attr_codec.specs.Prefixes.{IsOf, prefixes_of, prefixes_bytes};
 ghost use Rattle.attr_codec.specs.Read.{field_says};
 ghost use Rattle.attr_codec.specs.Written.{row_bytes, unreach_row, attrs_bytes};
@@ -42,4 +47,18 @@ pub fn attributes_read_back()
 /// Attributes that are read are valid, as those that are sent have to be.
 pub fn read_attributes_are_valid()
     ensures { (enc : Encoding) (field : List ℕ) → AreBytes field → IfOk (field_says enc field) (λ said. IfSome said.attrs IsValid) }
+{}
+
+/// What a frame carries is read back, and nothing else is read.
+pub fn frame_attributes_read_back()
+    ensures there { (attrs : Attrs) → IsFramed attrs →
+        frame_attrs_of attrs.hop attrs.weight (frame_attrs_bytes attrs) ≡ Some attrs }
+    ensures only { (hop : Addr) (weight : ℕ) (bytes : List ℕ) (attrs : Attrs) → AreBytes bytes →
+        frame_attrs_of hop weight bytes ≡ Some attrs → IsFrameOf hop weight bytes attrs }
+{}
+
+/// A path that is joined from AS_PATH and AS4_PATH has as many numbers as AS_PATH (RFC 6793 section 4.2.3).
+pub fn joined_paths_keep_length()
+    ensures { (path as4_path : List Segment) →
+        path_length (joined_paths path as4_path) ≡ path_length path }
 {}

@@ -3,9 +3,14 @@
 
 mod ascending;
 mod communities;
+mod cut_field;
 mod fault;
 mod field;
+mod flag;
+mod frame;
 mod join;
+mod kind;
+mod kinds;
 mod laws;
 mod outcome;
 mod parts;
@@ -24,14 +29,16 @@ mod update_fault;
 mod values;
 mod writing;
 
+pub use frame::{frame_attrs_size, read_frame_attrs, write_frame_attrs};
 pub use laws::{
-    attributes_read_back, attributes_split, prefixes_read_back, read_attributes_are_valid,
+    attributes_read_back, attributes_split, frame_attributes_read_back, joined_paths_keep_length,
+    prefixes_read_back, read_attributes_are_valid,
 };
 pub use outcome::ReadAttrs;
 pub use prefixes::{addr_in, are_prefixes, read_prefixes};
 pub use put_prefixes::{prefixes_size, write_prefixes, write_reach, write_unreach};
 pub use reading::read_attrs;
-pub use sizes::{attrs_size, size};
+pub use sizes::{announced_size, attrs_size, size};
 pub use update_fault::UpdateFault;
 pub use writing::write_attrs;
 

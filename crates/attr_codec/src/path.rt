@@ -2,7 +2,7 @@
 
 ghost use Rattle.std.specs.Prelude.{◌≡◌, ◌<◌, Some, None, length, option_map, IfOk, IfSome, MatchOption, MatchResult};
 ghost use Rattle.wire_buf.specs.Field.{Reads, number_at};
-ghost use Rattle.attr_codec.specs.Path.{as_size, numbers_of, segment_of, segment_parts_at, segment_at, path_of};
+ghost use Rattle.attr_codec.specs.Path.{as_size, numbers_in, segment_of, segment_parts_at, segment_at, path_of};
 
 use attr_model::{AsList, Path, Segment};
 use net_base::{Items, NoMemory};
@@ -22,7 +22,7 @@ fn next_number(left: &mut Cursor<'_>, as4: bool) -> Result<u32, Short>
 
 /// The numbers that stand whole in a field, of four bytes each or of two.
 pub(crate) fn read_numbers(alloc: Global, as4: bool, bytes: &[u8]) -> Result<AsList, NoMemory>
-    ensures { IfOk result (λ numbers. numbers ≡ numbers_of (as_size as4) bytes.now) }
+    ensures { IfOk result (λ numbers. numbers ≡ numbers_in (as_size as4) bytes.now) }
 {
     let mut numbers = Items::new(alloc);
     let mut left = Cursor::new(bytes);

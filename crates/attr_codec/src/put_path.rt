@@ -7,11 +7,9 @@ ghost use Rattle.attr_codec.specs.Path.{exceeds, told_as, as_bytes, kind_of_segm
 ghost use Rattle.attr_codec.specs.Width.{IsNumber, AreNumbers, AreSegments};
 
 use attr_model::Segment;
+use bgp_wire::AS_TRANS;
 use net_base::NoMemory;
 use wire_buf::Pipe;
-
-/// AS_TRANS, which stands for an AS number of four octets (RFC 6793 section 9).
-pub(crate) const AS_TRANS: u16 = 23456;
 
 /// Whether an AS number has no room in two bytes.
 pub(crate) fn exceeds(asn: u32) -> bool
@@ -61,22 +59,13 @@ fn kind_of(segment: &Segment) -> u8
     }
 }
 
-/// The numbers that a segment lists.
-pub(crate) fn listed(segment: &Segment) -> &[u32]
-    ensures { result.now ≡ numbers_of segment.now }
-{
-    match segment {
-        Segment::Set(numbers) | Segment::Sequence(numbers) => numbers.as_slice(),
-    }
-}
-
 fn put_segment(as4: bool, segment: &Segment, out: &mut Pipe) -> Result<(), NoMemory>
     requires { IsSegment segment.now }
     ensures ok { OnOk result (out.new ≡ out.old ++ segment_bytes as4 segment.now) }
     ensures err { OnErr result (Keeps out.old out.new) }
     ensures width { OnOk result (AreNumbers (numbers_of segment.now)) }
 {
-    let numbers = listed(segment);
+    let numbers = segment.numbers();
     out.push(&[kind_of(segment), numbers.len() as u8])?;
     put_numbers(as4, numbers, out)
 }
@@ -97,7 +86,7 @@ pub(crate) fn put_segments(as4: bool, path: &[Segment], out: &mut Pipe) -> Resul
 fn segment_exceeds(segment: &Segment) -> bool
     ensures { result ≡ segment_exceeds segment.now }
 {
-    listed(segment).iter().any(|asn| exceeds(*asn))
+    segment.numbers().iter().any(|asn| exceeds(*asn))
 }
 
 /// Whether some number of a path has no room in two bytes.

@@ -3,21 +3,19 @@
 ghost use Rattle.std.specs.Prelude.{◌≡◌, IfOk};
 ghost use Rattle.net_base.specs.declared.addr.Family.TheVariants.{V4};
 ghost use Rattle.net_base.specs.Bits.{addr_of};
-ghost use Rattle.attr_codec.specs.Field.{attributes_of};
 ghost use Rattle.attr_codec.specs.Said.{is_malformed};
 ghost use Rattle.attr_codec.specs.Gives.{Gives};
 ghost use Rattle.attr_codec.specs.Values.{next_hop_said};
 ghost use Rattle.attr_codec.specs.Read.{reach_said, unreach_said, is_reach_malformed, is_unreach_malformed, next_hop_of, hop_of, attrs_with, attrs_said, is_route_malformed, attributes_say, field_says};
 
-use crate::fault::fault;
-use crate::field::first_of;
+use crate::cut_field::{CutField, cut_field};
 use crate::outcome::ReadAttrs;
 use crate::parts::{Lists, Numbers, Paths};
 use crate::reach::{read_reach, read_unreach};
 use crate::said::Flags;
 use crate::together::{lists, numbers, partial, paths};
 use crate::update_fault::UpdateFault;
-use crate::values;
+use crate::{kind, values};
 use attr_model::Attrs;
 use bgp_wire::Encoding;
 use net_base::{Addr, Family, NoMemory, PrefixList};
@@ -28,10 +26,14 @@ type Reach = (Family, Addr, PrefixList);
 type Unreach = (Family, PrefixList);
 
 // What MP_REACH_NLRI announces, and whether its flags are bad.
-fn reach(alloc: Global, enc: Encoding, field: &[u8]) -> Result<(Option<Reach>, bool), NoMemory>
-    ensures { IfOk result (λ found. found ≡ (reach_said enc (attributes_of field.now), is_reach_malformed enc (attributes_of field.now))) }
+fn reach(
+    alloc: Global,
+    enc: Encoding,
+    field: &CutField<'_>,
+) -> Result<(Option<Reach>, bool), NoMemory>
+    ensures { IfOk result (λ found. found ≡ (reach_said enc field.now, is_reach_malformed enc field.now)) }
 {
-    let Some(attribute) = first_of(field, 14) else {
+    let Some(attribute) = field.first(kind::MP_REACH) else {
         return Ok((None, false));
     };
     let reach = read_reach(alloc, enc, attribute.value)?;
@@ -40,10 +42,14 @@ fn reach(alloc: Global, enc: Encoding, field: &[u8]) -> Result<(Option<Reach>, b
 }
 
 // What MP_UNREACH_NLRI withdraws, and whether its flags are bad.
-fn unreach(alloc: Global, enc: Encoding, field: &[u8]) -> Result<(Option<Unreach>, bool), NoMemory>
-    ensures { IfOk result (λ found. found ≡ (unreach_said enc (attributes_of field.now), is_unreach_malformed enc (attributes_of field.now))) }
+fn unreach(
+    alloc: Global,
+    enc: Encoding,
+    field: &CutField<'_>,
+) -> Result<(Option<Unreach>, bool), NoMemory>
+    ensures { IfOk result (λ found. found ≡ (unreach_said enc field.now, is_unreach_malformed enc field.now)) }
 {
-    let Some(attribute) = first_of(field, 15) else {
+    let Some(attribute) = field.first(kind::MP_UNREACH) else {
         return Ok((None, false));
     };
     let unreach = read_unreach(alloc, enc, attribute.value)?;
@@ -92,10 +98,10 @@ fn build(
 }
 
 // NEXT_HOP, where it is there and good, and whether it is malformed.
-fn next_hop(field: &[u8]) -> (Option<Addr>, bool)
-    ensures { result ≡ (next_hop_of (attributes_of field.now), is_malformed (next_hop_said (attributes_of field.now))) }
+fn next_hop(field: &CutField<'_>) -> (Option<Addr>, bool)
+    ensures { result ≡ (next_hop_of field.now, is_malformed (next_hop_said field.now)) }
 {
-    let said = values::number(field, 3, Flags::WellKnown);
+    let said = values::number(field, kind::NEXT_HOP, Flags::WellKnown);
     let malformed = said.is_malformed();
     (said.value().map(v4_addr), malformed)
 }
@@ -114,9 +120,9 @@ fn attrs(
     alloc: Global,
     enc: Encoding,
     hop: Addr,
-    field: &[u8],
+    field: &CutField<'_>,
 ) -> Result<(Option<Attrs>, bool), NoMemory>
-    ensures { IfOk result (λ found. found ≡ (attrs_said enc hop (attributes_of field.now), is_route_malformed enc (attributes_of field.now))) }
+    ensures { IfOk result (λ found. found ≡ (attrs_said enc hop field.now, is_route_malformed enc field.now)) }
 {
     let origin = values::origin(field);
     let numbers = numbers(enc.external, field);
@@ -133,8 +139,8 @@ fn attrs(
 
 // What the attributes of a field without a NOTIFICATION say.
 #[tactic(auto, unfolding(crate::specs::Read::attributes_say))]
-fn said(alloc: Global, enc: Encoding, field: &[u8]) -> Result<ReadAttrs, NoMemory>
-    ensures { IfOk result (λ said. said ≡ attributes_say enc (attributes_of field.now)) }
+fn said(alloc: Global, enc: Encoding, field: &CutField<'_>) -> Result<ReadAttrs, NoMemory>
+    ensures { IfOk result (λ said. said ≡ attributes_say enc field.now) }
 {
     let (reach, malformed_reach) = reach(alloc, enc, field)?;
     let (unreach, malformed_unreach) = unreach(alloc, enc, field)?;
@@ -159,8 +165,8 @@ fn said(alloc: Global, enc: Encoding, field: &[u8]) -> Result<ReadAttrs, NoMemor
 pub fn read_attrs(alloc: Global, enc: Encoding, bytes: &[u8]) -> Result<ReadAttrs, UpdateFault>
     ensures { Gives result (field_says enc bytes.now) }
 {
-    if let Some(sub) = fault(enc, bytes) {
-        return Err(UpdateFault::Notify(sub));
+    match cut_field(enc, bytes) {
+        Err(sub) => Err(UpdateFault::Notify(sub)),
+        Ok(field) => Ok(said(alloc, enc, &field)?),
     }
-    Ok(said(alloc, enc, bytes)?)
 }

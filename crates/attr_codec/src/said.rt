@@ -1,11 +1,10 @@
 //! What an UPDATE says by one attribute.
 
 ghost use Rattle.std.specs.Prelude.{◌≡◌, Option};
-ghost use Rattle.attr_codec.specs.Field.{attributes_of};
 ghost use Rattle.attr_codec.specs.Flags.{fits};
 ghost use Rattle.attr_codec.specs.Said.{bytes_said, said_now};
 
-use crate::field::{Attribute, first_of};
+use crate::cut_field::CutField;
 
 /// What an UPDATE says by one attribute (RFC 7606 section 2).
 #[derive(Debug, Drop)]
@@ -82,10 +81,10 @@ impl Flags {
 }
 
 /// The bytes of the first attribute of a type, where it has the flags of that type.
-pub(crate) fn bytes_said<'a>(field: &'a [u8], kind: u8, flags: Flags) -> Said<&'a [u8]>
-    ensures { said_now result ≡ bytes_said (fits flags) kind (attributes_of field.now) }
+pub(crate) fn bytes_said<'a>(field: &CutField<'a>, kind: u8, flags: Flags) -> Said<&'a [u8]>
+    ensures { said_now result ≡ bytes_said (fits flags) kind field.now }
 {
-    match first_of(field, kind) {
+    match field.first(kind) {
         None => Said::Nothing,
         Some(attribute) if flags.fits(attribute.flags) => Said::Value(attribute.value),
         Some(_) => Said::Malformed,

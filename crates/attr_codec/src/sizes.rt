@@ -4,19 +4,23 @@ ghost use Rattle.std.specs.Prelude.{◌≡◌, ◌+◌, ◌∷◌, [], ◌++◌,
 ghost use Rattle.byteorder.specs.Endian.{big_bytes};
 ghost use Rattle.attr_codec.specs.Path.{as_bytes, segment_bytes, path_bytes};
 ghost use Rattle.attr_codec.specs.Written.{row, row_bytes, rows_bytes, next_hop_value, atomic_value, aggregator_bytes, large_bytes, list_value, as4_path_value, as4_aggregator_value, unknown_rows, route_rows, number_rows, list_rows, as4_rows, large_rows, low_rows, high_rows, attrs_bytes};
-ghost use Rattle.attr_codec.specs.Size.{attribute_size, nlri_size, update_size, capped};
+ghost use Rattle.attr_codec.specs.Size.{attribute_size, nlri_size, announced_size, update_size, capped};
 
-use crate::put_path::{exceeds, listed, path_exceeds};
+use crate::put_path::{exceeds, path_exceeds};
 use attr_model::{Attrs, Segment};
 use bgp_wire::Encoding;
-use net_base::{Bytes, Family};
+use net_base::{Addr, Bytes, Family};
 
 #[tactic(auto, using(crate::proofs::Lengths::segment_size))]
 fn segment(as4: bool, segment: &Segment) -> usize
     ensures { result ≡ capped (length (segment_bytes as4 segment.now)) }
 {
     let size = if as4 { 4 } else { 2 };
-    listed(segment).len().saturating_mul(size).saturating_add(2)
+    segment
+        .numbers()
+        .len()
+        .saturating_mul(size)
+        .saturating_add(2)
 }
 
 /// The value of an AS_PATH.
@@ -65,10 +69,10 @@ fn number(number: Option<u32>) -> usize
 }
 
 // ORIGIN, AS_PATH and NEXT_HOP.
-fn route(enc: Encoding, attrs: &Attrs) -> usize
-    ensures { result ≡ capped (length (rows_bytes (route_rows enc attrs.now))) }
+fn route(enc: Encoding, attrs: &Attrs, hop: Addr) -> usize
+    ensures { result ≡ capped (length (rows_bytes (route_rows enc (record attrs.now { hop = hop })))) }
 {
-    let next_hop = match attrs.hop.family {
+    let next_hop = match hop.family {
         Family::V4 => 7,
         Family::V6 => 0,
     };
@@ -171,11 +175,11 @@ fn unknown(low: u8, high: u8, unknown: &[(u8, Bytes)]) -> usize
 }
 
 // The attributes of types up to 8.
-fn low(enc: Encoding, attrs: &Attrs) -> usize
-    ensures { result ≡ capped (length (rows_bytes (low_rows enc attrs.now))) }
+fn low(enc: Encoding, attrs: &Attrs, hop: Addr) -> usize
+    ensures { result ≡ capped (length (rows_bytes (low_rows enc (record attrs.now { hop = hop })))) }
 {
     unknown(0, 0, attrs.unknown.as_slice())
-        .saturating_add(route(enc, attrs))
+        .saturating_add(route(enc, attrs, hop))
         .saturating_add(numbers(attrs))
         .saturating_add(lists(enc, attrs))
 }
@@ -193,11 +197,18 @@ fn high(enc: Encoding, attrs: &Attrs) -> usize
 }
 
 /// How many bytes the attributes have that `write_attrs` writes, or the greatest usize where that is more.
-#[tactic(auto, unfolding(crate::specs::Written::attrs_bytes))]
 pub fn attrs_size(enc: Encoding, attrs: &Attrs) -> usize
     ensures { result ≡ capped (length (attrs_bytes enc attrs.now)) }
 {
-    low(enc, attrs).saturating_add(high(enc, attrs))
+    size_with(enc, attrs, attrs.hop)
+}
+
+/// The same of a route with this hop in the place of its own.
+#[tactic(auto, unfolding(crate::specs::Written::attrs_bytes))]
+pub(crate) fn size_with(enc: Encoding, attrs: &Attrs, hop: Addr) -> usize
+    ensures { result ≡ capped (length (attrs_bytes enc (record attrs.now { hop = hop }))) }
+{
+    low(enc, attrs, hop).saturating_add(high(enc, attrs))
 }
 
 // The prefixes, with the attribute that they stand in where they are of IPv6.
@@ -215,7 +226,15 @@ fn nlri_bytes(family: Family, nlri: usize) -> usize
 pub fn size(enc: Encoding, attrs: &Attrs, nlri: usize) -> usize
     ensures { result ≡ capped (update_size enc attrs.now nlri) }
 {
-    attrs_size(enc, attrs)
-        .saturating_add(nlri_bytes(attrs.hop.family, nlri))
+    announced_size(attrs.hop.family, attrs_size(enc, attrs), nlri)
+}
+
+/// The same for prefixes of this family where the attributes have so many bytes, as `attrs_size` says. So the attributes are
+/// measured once for all lists of prefixes that are announced with them.
+pub fn announced_size(family: Family, attributes: usize, nlri: usize) -> usize
+    ensures { result ≡ capped (announced_size family attributes nlri) }
+{
+    attributes
+        .saturating_add(nlri_bytes(family, nlri))
         .saturating_add(23)
 }

@@ -1,27 +1,24 @@
 //! What the attributes of a field say together, made from what each says.
 
 ghost use Rattle.std.specs.Prelude.{◌≡◌, IfOk};
-ghost use Rattle.attr_codec.specs.Field.{attributes_of};
 ghost use Rattle.attr_codec.specs.Parts.{numbers_said, with_as4_path, paths_said, lists_said, partial_bit, partial_bits};
 
 use crate::communities::{communities, large};
-use crate::field::first_of;
+use crate::cut_field::CutField;
+use crate::flag::PARTIAL;
 use crate::join::join_paths;
 use crate::parts::{Lists, Numbers, Paths};
 use crate::said::{Flags, Said};
 use crate::unknown::unknown;
-use crate::values;
+use crate::{kind, values};
 use attr_model::Path;
 use net_base::{Items, NoMemory};
 use std::alloc::Global;
 
-/// The flag bit of attributes that some speaker on the way didn't know (RFC 4271 section 4.3).
-const PARTIAL: u8 = 0x20;
-
-pub(crate) fn numbers(external: bool, field: &[u8]) -> Numbers
-    ensures { result ≡ numbers_said external (attributes_of field.now) }
+pub(crate) fn numbers(external: bool, field: &CutField<'_>) -> Numbers
+    ensures { result ≡ numbers_said external field.now }
 {
-    let med = values::number(field, 4, Flags::Optional);
+    let med = values::number(field, kind::MED, Flags::Optional);
     let local_pref = values::local_pref(external, field);
     let atomic = values::atomic(field);
     let malformed = med.is_malformed() || local_pref.is_malformed() || atomic.is_malformed();
@@ -51,8 +48,8 @@ fn join(
     }
 }
 
-pub(crate) fn paths(alloc: Global, as4: bool, field: &[u8]) -> Result<Paths, NoMemory>
-    ensures { IfOk result (λ paths. paths ≡ paths_said as4 (attributes_of field.now)) }
+pub(crate) fn paths(alloc: Global, as4: bool, field: &CutField<'_>) -> Result<Paths, NoMemory>
+    ensures { IfOk result (λ paths. paths ≡ paths_said as4 field.now) }
 {
     let path = values::path(alloc, as4, field)?;
     let as4_path = values::as4_path(alloc, as4, field)?;
@@ -70,8 +67,8 @@ pub(crate) fn paths(alloc: Global, as4: bool, field: &[u8]) -> Result<Paths, NoM
     })
 }
 
-pub(crate) fn lists(alloc: Global, field: &[u8]) -> Result<Lists, NoMemory>
-    ensures { IfOk result (λ lists. lists ≡ lists_said (attributes_of field.now)) }
+pub(crate) fn lists(alloc: Global, field: &CutField<'_>) -> Result<Lists, NoMemory>
+    ensures { IfOk result (λ lists. lists ≡ lists_said field.now) }
 {
     let communities = communities(alloc, field)?;
     let large = large(alloc, field)?;
@@ -85,20 +82,20 @@ pub(crate) fn lists(alloc: Global, field: &[u8]) -> Result<Lists, NoMemory>
 }
 
 // A bit for the partial bit of a type, where its attribute counts.
-fn bit(counts: bool, kind: u8, bit: u8, field: &[u8]) -> u8
-    ensures { result ≡ partial_bit counts kind bit (attributes_of field.now) }
+fn bit(counts: bool, kind: u8, bit: u8, field: &CutField<'_>) -> u8
+    ensures { result ≡ partial_bit counts kind bit field.now }
 {
-    match first_of(field, kind) {
+    match field.first(kind) {
         Some(attribute) if counts && attribute.flags & PARTIAL != 0 => bit,
         _ => 0,
     }
 }
 
 /// The partial bits of AGGREGATOR (1), COMMUNITIES (2) and LARGE_COMMUNITY (4).
-pub(crate) fn partial(paths: &Paths, lists: &Lists, field: &[u8]) -> u8
-    ensures { result ≡ partial_bits paths.now lists.now (attributes_of field.now) }
+pub(crate) fn partial(paths: &Paths, lists: &Lists, field: &CutField<'_>) -> u8
+    ensures { result ≡ partial_bits paths.now lists.now field.now }
 {
-    bit(paths.aggregator.is_some(), 7, 1, field)
-        + bit(!lists.communities.is_empty(), 8, 2, field)
-        + bit(!lists.large.is_empty(), 32, 4, field)
+    bit(paths.aggregator.is_some(), kind::AGGREGATOR, 1, field)
+        + bit(!lists.communities.is_empty(), kind::COMMUNITIES, 2, field)
+        + bit(!lists.large.is_empty(), kind::LARGE_COMMUNITY, 4, field)
 }

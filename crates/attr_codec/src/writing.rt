@@ -8,6 +8,7 @@ ghost use Rattle.attr_model.specs.Valid.{IsPath, IsValid};
 ghost use Rattle.attr_codec.specs.Written.{kept_flags, row, row_bytes, rows_bytes, as4_path_value, as4_aggregator_value, large_bytes, route_rows, number_rows, list_rows, as4_rows, large_rows, low_rows, high_rows, attrs_bytes, IsShort, HaveShortValues};
 ghost use Rattle.attr_codec.specs.Width.{IsNumber, AreNumbers, AreSegments, IsAggregator, IsLarge, IsUnknown, HaveWidth};
 
+use crate::flag::{OPTIONAL_TRANSITIVE, PARTIAL};
 use crate::put::{
     put_aggregator, put_atomic, put_communities, put_large_communities, put_next_hop, put_number,
     put_path, put_unknown, put_value,
@@ -15,14 +16,8 @@ use crate::put::{
 use crate::put_path::{exceeds, path_exceeds};
 use attr_model::{Attrs, Segment};
 use bgp_wire::Encoding;
-use net_base::NoMemory;
+use net_base::{Addr, NoMemory};
 use wire_buf::Pipe;
-
-/// The flags of an optional transitive attribute (RFC 4271 section 4.3).
-const OPTIONAL_TRANSITIVE: u8 = 0xc0;
-
-/// The same with the bit that says that some speaker on the way didn't know it.
-const PARTIAL: u8 = 0xe0;
 
 // The flags of an optional transitive attribute, with its partial bit as it was kept.
 fn kept_flags(bits: u8, bit: u8) -> u8
@@ -32,21 +27,21 @@ fn kept_flags(bits: u8, bit: u8) -> u8
     if bits & bit == 0 {
         OPTIONAL_TRANSITIVE
     } else {
-        PARTIAL
+        OPTIONAL_TRANSITIVE | PARTIAL
     }
 }
 
 // ORIGIN, AS_PATH and NEXT_HOP.
-fn put_route(enc: Encoding, attrs: &Attrs, out: &mut Pipe) -> Result<(), NoMemory>
+fn put_route(enc: Encoding, attrs: &Attrs, hop: Addr, out: &mut Pipe) -> Result<(), NoMemory>
     requires path { IsPath attrs.now.path }
     requires size { HaveShortValues enc attrs.now }
-    ensures ok { OnOk result (out.new ≡ out.old ++ rows_bytes (route_rows enc attrs.now)) }
+    ensures ok { OnOk result (out.new ≡ out.old ++ rows_bytes (route_rows enc (record attrs.now { hop = hop }))) }
     ensures err { OnErr result (Keeps out.old out.new) }
     ensures width { OnOk result (AreSegments attrs.now.path) }
 {
     put_value(0x40, 1, &[attrs.origin], out)?;
     put_path(0x40, 2, enc.as4, attrs.path.as_slice(), out)?;
-    put_next_hop(attrs.hop, out)
+    put_next_hop(hop, out)
 }
 
 // MULTI_EXIT_DISC, LOCAL_PREF and ATOMIC_AGGREGATE.
@@ -136,10 +131,10 @@ fn put_large(attrs: &Attrs, out: &mut Pipe) -> Result<(), NoMemory>
 }
 
 // The attributes of types up to 8.
-fn put_low(enc: Encoding, attrs: &Attrs, out: &mut Pipe) -> Result<(), NoMemory>
+fn put_low(enc: Encoding, attrs: &Attrs, hop: Addr, out: &mut Pipe) -> Result<(), NoMemory>
     requires path { IsPath attrs.now.path }
     requires size { HaveShortValues enc attrs.now }
-    ensures ok { OnOk result (out.new ≡ out.old ++ rows_bytes (low_rows enc attrs.now)) }
+    ensures ok { OnOk result (out.new ≡ out.old ++ rows_bytes (low_rows enc (record attrs.now { hop = hop }))) }
     ensures err { OnErr result (Keeps out.old out.new) }
     ensures path { OnOk result (AreSegments attrs.now.path) }
     ensures med { OnOk result (IfSome attrs.now.med IsNumber) }
@@ -148,7 +143,7 @@ fn put_low(enc: Encoding, attrs: &Attrs, out: &mut Pipe) -> Result<(), NoMemory>
     ensures communities { OnOk result (AreNumbers attrs.now.communities) }
 {
     put_unknown(0, 0, attrs.unknown.as_slice(), out)?;
-    put_route(enc, attrs, out)?;
+    put_route(enc, attrs, hop, out)?;
     put_numbers(attrs, out)?;
     put_lists(enc, attrs, out)
 }
@@ -170,15 +165,21 @@ fn put_high(enc: Encoding, attrs: &Attrs, out: &mut Pipe) -> Result<(), NoMemory
     put_unknown(33, 255, unknown, out)
 }
 
+/// Puts the attributes of a route with this hop in the place of its own. Where memory is refused, `out` may hold a part of them.
 #[tactic(auto, unfolding(crate::specs::Written::attrs_bytes))]
-fn put_attrs(enc: Encoding, attrs: &Attrs, out: &mut Pipe) -> Result<(), NoMemory>
+pub(crate) fn put_attrs(
+    enc: Encoding,
+    attrs: &Attrs,
+    hop: Addr,
+    out: &mut Pipe,
+) -> Result<(), NoMemory>
     requires valid { IsValid attrs.now }
     requires size { HaveShortValues enc attrs.now }
-    ensures ok { OnOk result (out.new ≡ out.old ++ attrs_bytes enc attrs.now) }
+    ensures ok { OnOk result (out.new ≡ out.old ++ attrs_bytes enc (record attrs.now { hop = hop })) }
     ensures err { OnErr result (Keeps out.old out.new) }
     ensures width { OnOk result (HaveWidth attrs.now) }
 {
-    put_low(enc, attrs, out)?;
+    put_low(enc, attrs, hop, out)?;
     put_high(enc, attrs, out)
 }
 
@@ -196,9 +197,6 @@ pub fn write_attrs(enc: Encoding, attrs: &Attrs, out: &mut Pipe) -> Result<(), N
     ensures width { OnOk result (HaveWidth attrs.now) }
 {
     let held = out.len();
-    let written = put_attrs(enc, attrs, out);
-    if written.is_err() {
-        out.truncate(held);
-    }
-    written
+    let written = put_attrs(enc, attrs, attrs.hop, out);
+    out.keep_on_err(held, written)
 }

@@ -1,3 +1,4 @@
 pub mod Prepending
 pub mod PrependedValid
 pub mod LargeOrder
+pub mod SameAttrs

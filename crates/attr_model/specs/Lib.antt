@@ -1,2 +1,4 @@
 pub mod Path
+pub mod Routes
 pub mod Valid
+pub mod Numbered

@@ -41,9 +41,19 @@ impl Clone for Segment {
 
 impl Segment {
     ghost use Rattle.attr_model.specs.Path.{count_of, last_number};
+    ghost use Rattle.attr_model.specs.Valid.{numbers_of};
+
+    /// The numbers that the segment lists.
+    pub fn numbers(&self) -> &[u32]
+        ensures { result.now ≡ numbers_of self.now }
+    {
+        match self {
+            Segment::Set(numbers) | Segment::Sequence(numbers) => numbers.as_slice(),
+        }
+    }
 
     /// What the segment adds to the length of a path: a set counts one.
-    fn weight(&self) -> usize
+    pub fn weight(&self) -> usize
         ensures { result ≡ count_of self.now }
     {
         match self {

@@ -6,17 +6,17 @@ use Rattle.std.proofs.lemmas.Grind.{flat_map-append}
 use Rattle.byteorder.specs.Endian.{big_bytes}
 use Rattle.bgp_wire.specs.Entries.{entry_bytes}
 use Rattle.bgp_wire.specs.declared.open.OpenRules.{OpenRules}
-use Rattle.bgp_wire.specs.Message.{header_bytes, message_bytes, header_fault, IsMessage}
+use Rattle.bgp_wire.specs.Message.{message_header, message_bytes, header_fault, IsMessage}
 use Rattle.bgp_wire.specs.Written.{open_by, optional_by, fixed_by, announced, capabilities_by}
 
 -- the body of an OPEN has ten bytes before its optional parameters
 pub open_length : (r : OpenRules) → 19 + length (open_by r).body ≡ 29 + length (optional_by r)
 open_length r = let e = length-append (fixed_by r ++ (length (optional_by r) ∷ [])) (optional_by r) in omega arith
 
-pub open_message : (r : OpenRules) (old header whole : List ℕ) (size : ℕ) → size ≡ 29 + length (optional_by r) → header ≡ old ++ header_bytes 1 size → whole ≡ header ++ (open_by r).body → whole ≡ old ++ message_bytes (open_by r)
+pub open_message : (r : OpenRules) (old header whole : List ℕ) (size : ℕ) → size ≡ 29 + length (optional_by r) → header ≡ old ++ message_header 1 size → whole ≡ header ++ (open_by r).body → whole ≡ old ++ message_bytes (open_by r)
 open_message r old header whole size s h w =
     let e : size ≡ 19 + length (open_by r).body = s ∙ sym (open_length r) in
-    w ∙ ap (λ (x : List ℕ). x ++ (open_by r).body) h ∙ append_assoc old (header_bytes 1 size) (open_by r).body ∙ ap (λ (n : ℕ). old ++ (header_bytes 1 n ++ (open_by r).body)) e
+    w ∙ ap (λ (x : List ℕ). x ++ (open_by r).body) h ∙ append_assoc old (message_header 1 size) (open_by r).body ∙ ap (λ (n : ℕ). old ++ (message_header 1 n ++ (open_by r).body)) e
 
 -- an OPEN is a good message
 announced_length : (b : Bool) (code : ℕ) (value : List ℕ) → length (flat_map entry_bytes (announced b code value)) ≤ 2 + length value

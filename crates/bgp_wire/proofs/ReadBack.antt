@@ -12,7 +12,7 @@ use Rattle.bgp_wire.specs.declared.notify.Notify.{Notify}
 use Rattle.bgp_wire.specs.Message.{first_row}
 use Rattle.bgp_wire.specs.Entries.{Entry, entry_bytes}
 use Rattle.bgp_wire.specs.Open.{Open, open_of, lists_of, parameters_of, capabilities_in, has_its_length, is_of_code, is_of_family, offers_v4, offers_v6, offers, four_octet_as, as_of, answer_to, open_rows, facts_of, answered}
-use Rattle.bgp_wire.specs.Written.{announced, capabilities_by, parameters_by, my_as_by, optional_by, open_by, told_as, facts_by, IsAcceptable, HaveWidth}
+use Rattle.bgp_wire.specs.Written.{announced, capabilities_by, parameters_by, my_as_by, optional_by, open_by, heard_asn, facts_by, IsAcceptable, RulesHaveWidth}
 use Rattle.bgp_wire.proofs.Cutting.{entries_written}
 use Rattle.bgp_wire.proofs.Offers.{later_as, or_false}
 use Rattle.bgp_wire.proofs.Judging.{or_none}
@@ -107,7 +107,7 @@ my_as_fits r = fits (nat_lt r.asn 65536) refl
     fits true h = grind (arith, nat_tests)
     fits false h = omega arith
 
-open_back : (r : OpenRules) → HaveWidth r → open_of (open_by r).body ≡ said_by r
+open_back : (r : OpenRules) → RulesHaveWidth r → open_of (open_by r).body ≡ said_by r
 unfolding said_by
 open_back r w =
     let my_as : big_number 2 (drop 1 (open_by r).body) ≡ my_as_by r = big_number-reads_back 2 (my_as_by r) (drop 3 (open_by r).body) (my_as_fits r) in
@@ -126,7 +126,7 @@ unwrapped : (b : Bool) (x y : ℕ) → unwrap_or (if b then Some x else None) y 
 unwrapped true x y = refl
 unwrapped false x y = refl
 
-as_back : (r : OpenRules) → HaveWidth r → as_of (said_by r) ≡ told_as r
+as_back : (r : OpenRules) → RulesHaveWidth r → as_of (said_by r) ≡ heard_asn r
 unfolding said_by
 as_back r w = rw (as_by r w.asn) (unwrapped r.as4 r.asn (my_as_by r))
 
@@ -155,7 +155,7 @@ as4_back r = rw (any_by (is_of_code 65) r) (simp (and_true, and_false))
 refresh_back : (r : OpenRules) → offers 2 (capabilities_by r) ≡ r.refresh
 refresh_back r = rw (any_by (is_of_code 2) r) (simp (and_true, and_false, or_false))
 
-facts_back : (ours theirs : OpenRules) → HaveWidth ours → facts_of (said_by ours) theirs ≡ facts_by ours theirs
+facts_back : (ours theirs : OpenRules) → RulesHaveWidth ours → facts_of (said_by ours) theirs ≡ facts_by ours theirs
 unfolding said_by
 facts_back ours theirs w = rw (as_back ours w, v4_back ours, v6_back ours, as4_back ours, refresh_back ours) refl
 
@@ -177,14 +177,14 @@ good_id id other remote own h (inr external) =
     let differs : nat_eq remote own ≡ false = grind (arith, nat_tests) in
     rw (some, differs) (and_false (nat_eq id other))
 
-no_row : (ours theirs : OpenRules) → HaveWidth ours → IsAcceptable ours theirs → first_row (open_rows (said_by ours) theirs) ≡ None
+no_row : (ours theirs : OpenRules) → RulesHaveWidth ours → IsAcceptable ours theirs → first_row (open_rows (said_by ours) theirs) ≡ None
 unfolding said_by
 no_row ours theirs w a =
     let same_as : nat_eq (as_of (said_by ours)) theirs.remote_as ≡ true = rw (as_back ours w, a.asn) (grind (arith, nat_tests)) in
     rw (no_foreign ours, same_as, good_hold ours.hold theirs.hold_min a.hold, good_id ours.router_id theirs.router_id theirs.remote_as theirs.asn a.id a.other_id) refl
 
 -- what the other side answers to an OPEN that is acceptable
-pub answer_back : (ours theirs : OpenRules) → HaveWidth ours → IsAcceptable ours theirs → answer_to (open_of (open_by ours).body) theirs ≡ Ok (facts_by ours theirs)
+pub answer_back : (ours theirs : OpenRules) → RulesHaveWidth ours → IsAcceptable ours theirs → answer_to (open_of (open_by ours).body) theirs ≡ Ok (facts_by ours theirs)
 answer_back ours theirs w a =
     ap (λ (o : Open). answer_to o theirs) (open_back ours w)
     ∙ ap (λ (f : Option Notify). answered f (facts_of (said_by ours) theirs)) (no_row ours theirs w a)

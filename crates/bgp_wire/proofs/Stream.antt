@@ -1,18 +1,19 @@
 -- A string of bytes is its messages one behind the other, and a rest.
 use Rattle.std.proofs.Common.{◌≡◌, ◌∙◌, ℕ, zero, suc, ◌+◌, ◌-◌, ◌*◌, ◌/◌, ◌%◌, ◌<◌, ◌≤◌, ◌^◌, Bool, true, false, List, [], ◌∷◌, ◌++◌, length, drop, take, replicate, Option, Some, None, refl, ap, sym, arith, append_assoc, append-nil, length-append, length-drop, inl, inr}
-use Rattle.std.specs.Prelude.{◌&&◌, ◌||◌, not, nat_lt, nat_eq, cond, flat_map, slice_index, ◌⊎◌}
+use Rattle.std.specs.Prelude.{◌&&◌, ◌||◌, not, nat_lt, nat_eq, cond, flat_map, slice_index, ◌⊎◌, IsSome}
 use Rattle.std.specs.List.{AllByRecursion}
 use Rattle.std.proofs.lemmas.Bool.Decides.{nat_tests}
 use Rattle.std.proofs.lemmas.Option.{none-some}
 use Rattle.std.proofs.Math.Nat.{mod-eq_of_lt}
-use Rattle.std.proofs.lemmas.List.{drop-take, drop-drop, get_or-drop, take-append-drop, length-take-le}
+use Rattle.std.proofs.Math.ListN.{get_or-append}
+use Rattle.std.proofs.lemmas.List.{take-append-le, drop-take, drop-drop, get_or-drop, take-append-drop, length-take-le}
 use Rattle.std.proofs.Math.Seq.{take-append_seam, drop-append_seam}
 use Rattle.byteorder.specs.Endian.{big_number}
 use Rattle.byteorder.specs.Numbers.{big_number-reads_back}
 use Rattle.bgp_wire.specs.declared.notify.Notify.{Notify}
 use Rattle.bgp_wire.specs.declared.front.Cut.{Cut}
 use Rattle.bgp_wire.specs.declared.front.Cut.TheVariants as cuts
-use Rattle.bgp_wire.specs.Message.{Header, header_of, header_fault, IsGood, IsPartial, BeginsMessage, BeginsFault, Message, message_bytes, IsMessage, Messages, EndsSo, Splits, cut_by, cut_of, messages_by, messages_in, messages, behind, AreBytes, is_all_ones}
+use Rattle.bgp_wire.specs.Message.{Header, header_of, header_fault, IsGood, IsUnfinished, BeginsMessage, BeginsFault, Message, message_bytes, IsMessage, Messages, EndsSo, Splits, cut_by, cut_of, messages_by, messages_in, messages, behind, AreBytes, is_all_ones}
 
 row_none : (b : Bool) (fault : Notify) (others : Option Notify) → cond b (Some fault) others ≡ None → (b ≡ false) × (others ≡ None)
 row_none true fault others h = absurd (none-some fault (sym h))
@@ -80,7 +81,7 @@ chosen_fault true f h held fault e = cc
 chosen_fault false None h held fault e = absurd (fault_of (nat_lt held h.size) h.kind h.size fault e)
 chosen_fault false (Some found) h held fault e = (refl, cc)
 
-pub cut_more : (bytes : List ℕ) → cut_of bytes ≡ cuts.More → IsPartial bytes
+pub cut_more : (bytes : List ℕ) → cut_of bytes ≡ cuts.More → IsUnfinished bytes
 cut_more bytes h =
     elim (chosen_more (nat_lt (length bytes) 19) (header_fault (header_of bytes)) (header_of bytes) (length bytes) h)
     [ inl short ↦ inl (grind (arith, nat_tests, short)) | inr rest ↦ inr (rest.0, grind (arith, nat_tests, rest.1)) ]
@@ -107,7 +108,7 @@ more_chosen : (b : Bool) (f : Option Notify) (h : Header) (held : ℕ) → f ≡
 more_chosen true f h held e low = refl
 more_chosen false f h held e low = ap (λ (f : Option Notify). cut_by f h held) e ∙ rw low refl
 
-pub partial_cut : (bytes : List ℕ) → IsPartial bytes → cut_of bytes ≡ cuts.More
+pub partial_cut : (bytes : List ℕ) → IsUnfinished bytes → cut_of bytes ≡ cuts.More
 partial_cut bytes (inl short) = let t : nat_lt (length bytes) 19 ≡ true = grind (arith, nat_tests) in rw t refl
 partial_cut bytes (inr rest) =
     let low : nat_lt (length bytes) (header_of bytes).size ≡ true = grind (arith, nat_tests, rest.1) in
@@ -295,3 +296,28 @@ goes_on bytes more are none =
     let s : Splits bytes (messages bytes) = split_so bytes are in
     ap messages (ap (λ (x : List ℕ). x ++ more) s.all ∙ append_assoc (flat_map message_bytes (messages bytes).whole) (messages bytes).rest more)
     ∙ all_written (messages bytes).whole ((messages bytes).rest ++ more) s.each
+
+-- the header of some bytes stands in their first 19
+header_on : (rest more : List ℕ) → 19 ≤ length rest → header_of (rest ++ more) ≡ header_of rest
+header_on rest more h =
+    let marker : take 16 (rest ++ more) ≡ take 16 rest = take-append-le 16 rest more (omega (arith, h)) in
+    let place : (i : ℕ) → 16 + i < length rest → slice_index (drop 16 (rest ++ more)) i ≡ slice_index (drop 16 rest) i = λ i low.
+    get_or-drop 16 (rest ++ more) i 0 ∙ get_or-append rest more 0 (16 + i) low ∙ sym (get_or-drop 16 rest i 0) in
+    let first = place 0 (omega (arith, h)) in
+    let second = place 1 (omega (arith, h)) in
+    let size : (header_of (rest ++ more)).size ≡ (header_of rest).size = rw (first, second) refl in
+    same_header (take 16 (rest ++ more)) (take 16 rest) (header_of (rest ++ more)).size (header_of rest).size (slice_index (rest ++ more) 18) (slice_index rest 18) marker size (get_or-append rest more 0 18 (omega (arith, h)))
+
+ends_on : (rest more : List ℕ) (fault : Option Notify) → IsSome fault → EndsSo rest fault → EndsSo (rest ++ more) fault
+ends_on rest more None some h = absurd cc
+ends_on rest more (Some fault) some h = (omega (arith, h.0, length-append rest more), ap header_fault (header_on rest more h.0) ∙ h.1)
+
+-- bytes behind a bad header change neither the messages nor the fault
+pub stays : (bytes more : List ℕ) → AreBytes bytes → IsSome (messages bytes).fault → messages (bytes ++ more) ≡ record (messages bytes) { rest = (messages bytes).rest ++ more }
+stays bytes more are some =
+    let s : Splits bytes (messages bytes) = split_so bytes are in
+    split_only (bytes ++ more) (record (messages bytes) { rest = (messages bytes).rest ++ more }) (record {
+      all = ap (λ (x : List ℕ). x ++ more) s.all ∙ append_assoc (flat_map message_bytes (messages bytes).whole) (messages bytes).rest more;
+      each = s.each;
+      ending = ends_on (messages bytes).rest more (messages bytes).fault some s.ending;
+    })

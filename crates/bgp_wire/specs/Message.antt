@@ -52,8 +52,8 @@ abbrev pub IsGood : Header → Type 0
 IsGood h = header_fault h ≡ None
 
 -- No whole message, and no fault so far.
-abbrev pub IsPartial : List ℕ → Type 0
-IsPartial bytes = (length bytes < 19) ⊎ (IsGood (header_of bytes) × (length bytes < (header_of bytes).size))
+abbrev pub IsUnfinished : List ℕ → Type 0
+IsUnfinished bytes = (length bytes < 19) ⊎ (IsGood (header_of bytes) × (length bytes < (header_of bytes).size))
 
 -- A whole message of this type and length stands in front.
 pub record BeginsMessage (bytes : List ℕ) (its_kind its_size : ℕ) : Type 0 where
@@ -73,12 +73,12 @@ pub record Message : Type 0 where
   pub body : List ℕ
 
 -- A header as bytes.
-abbrev pub header_bytes : ℕ → ℕ → List ℕ
-header_bytes kind size = (replicate 16 255 ++ big_bytes 2 size) ++ (kind ∷ [])
+abbrev pub message_header : ℕ → ℕ → List ℕ
+message_header kind size = (replicate 16 255 ++ big_bytes 2 size) ++ (kind ∷ [])
 
 -- A message as bytes.
 abbrev pub message_bytes : Message → List ℕ
-message_bytes m = header_bytes m.kind (19 + length m.body) ++ m.body
+message_bytes m = message_header m.kind (19 + length m.body) ++ m.body
 
 -- The header of a message is good, so its length is at most 4096.
 abbrev pub IsMessage : Message → Type 0
@@ -92,7 +92,7 @@ pub record Messages : Type 0 where
 
 -- The rest holds no whole message.
 abbrev pub EndsSo : List ℕ → Option Notify → Type 0
-EndsSo rest None = IsPartial rest
+EndsSo rest None = IsUnfinished rest
 EndsSo rest (Some fault) = BeginsFault rest fault
 
 -- The bytes are these messages and this rest.

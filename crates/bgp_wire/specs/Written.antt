@@ -69,12 +69,12 @@ abbrev pub Keeps : List ℕ → List ℕ → Type 0
 Keeps old new = take (length old) new ≡ old
 
 -- The AS number that an OPEN by these rules tells.
-abbrev pub told_as : OpenRules → ℕ
-told_as r = if r.as4 then r.asn else my_as_by r
+abbrev pub heard_asn : OpenRules → ℕ
+heard_asn r = if r.as4 then r.asn else my_as_by r
 
 -- An OPEN by the rules of `ours` is acceptable to the other side's rules.
 pub record IsAcceptable (ours theirs : OpenRules) : Type 0 where
-  pub asn : theirs.remote_as ≡ told_as ours
+  pub asn : theirs.remote_as ≡ heard_asn ours
   pub hold : (ours.hold ≡ 0) ⊎ ((3 ≤ ours.hold) × (theirs.hold_min ≤ ours.hold))
   pub id : 0 < ours.router_id
   pub other_id : (ours.router_id ≢ theirs.router_id) ⊎ (theirs.remote_as ≢ theirs.asn)
@@ -82,7 +82,7 @@ pub record IsAcceptable (ours theirs : OpenRules) : Type 0 where
 -- What the other side gathers from it.
 abbrev pub facts_by : OpenRules → OpenRules → OpenFacts
 facts_by ours theirs = record {
-  asn = told_as ours;
+  asn = heard_asn ours;
   id = ours.router_id;
   hold = min theirs.hold ours.hold;
   encoding = record {
@@ -95,7 +95,7 @@ facts_by ours theirs = record {
 }
 
 -- Each field of the rules has its width.
-pub record HaveWidth (r : OpenRules) : Type 0 where
+pub record RulesHaveWidth (r : OpenRules) : Type 0 where
   pub asn : r.asn < 2 ^ 32
   pub hold : r.hold < 2 ^ 16
   pub router_id : r.router_id < 2 ^ 32

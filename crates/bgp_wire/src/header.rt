@@ -1,14 +1,15 @@
 ghost use Rattle.std.specs.Prelude.{◌≡◌, ℕ, ◌↔◌};
-ghost use Rattle.bgp_wire.specs.Message.{header_fault, IsPartial, BeginsMessage, BeginsFault, messages, after_cut, cut_of, fits_kind, is_all_ones};
+ghost use Rattle.bgp_wire.specs.Message.{header_fault, IsUnfinished, BeginsMessage, BeginsFault, messages, after_cut, cut_of, fits_kind};
 
 use crate::kind::{KEEPALIVE, NOTIFICATION, OPEN, ROUTE_REFRESH, UPDATE};
 use crate::{Cut, Notify};
 use byteorder::{BigEndian, ByteOrder};
+use lane_scan::all_ones;
 
-/// How many bytes a header has.
-const HEADER_LENGTH: usize = 19;
-/// How many bytes the longest message has.
-const LONGEST: usize = 4096;
+/// How many bytes a header has (RFC 4271, section 4.1).
+pub const HEADER_LENGTH: usize = 19;
+/// How many bytes the longest message has (RFC 4271, section 4.1).
+pub const LONGEST: usize = 4096;
 
 /// Cuts the first message off a peer's bytes (RFC 4271, sections 4.1 and 6.1).
 ///
@@ -17,7 +18,7 @@ const LONGEST: usize = 4096;
 /// is 1/1, a length below 19 or above 4096 1/2, a type other than 1 to 5 1/3, and a length
 /// that the type can't have 1/2; the first of these that holds counts.
 pub fn cut(buffer: &[u8]) -> Cut
-    ensures more { (result ≡ Cut.More) ↔ IsPartial buffer.now }
+    ensures more { (result ≡ Cut.More) ↔ IsUnfinished buffer.now }
     ensures message { (kind n : ℕ) → ((result ≡ Cut.Message kind n) ↔ BeginsMessage buffer.now kind n) }
     ensures notify { (fault : Notify) → ((result ≡ Cut.Notify fault) ↔ BeginsFault buffer.now fault) }
     // The messages of the bytes are what is cut off, and those of the bytes behind it.
@@ -59,13 +60,6 @@ fn fault_of(marker: &[u8], length: usize, kind: u8) -> Option<Notify>
         return Some(Notify { code: 1, sub: 2 });
     }
     None
-}
-
-// Whether each byte is ff.
-fn all_ones(bytes: &[u8]) -> bool
-    ensures { result ≡ is_all_ones bytes.now }
-{
-    bytes.iter().all(|byte| *byte == 0xff)
 }
 
 // Whether a message of this type may have this length.

@@ -1,4 +1,4 @@
-ghost use Rattle.std.specs.Prelude.{◌≡◌, ℕ, List, ◌++◌, flat_map};
+ghost use Rattle.std.specs.Prelude.{◌≡◌, ℕ, List, ◌++◌, flat_map, None, IsSome};
 ghost use Rattle.std.specs.List.{AllByRecursion};
 ghost use Rattle.bgp_wire.specs.Entries.{Entry, entries, entry_bytes};
 ghost use Rattle.bgp_wire.specs.Message.{AreBytes, IsMessage, Message, Messages, Splits, behind, message_bytes, messages};
@@ -14,6 +14,9 @@ pub fn messages_split()
     // Bytes that come later go on where the first ended.
     ensures goes_on { (bytes more : List ℕ) → AreBytes bytes → (messages bytes).fault ≡ None →
         messages (bytes ++ more) ≡ behind (messages bytes).whole (messages ((messages bytes).rest ++ more)) }
+    // Bytes behind a bad header change neither the messages nor the fault.
+    ensures stays { (bytes more : List ℕ) → AreBytes bytes → IsSome (messages bytes).fault →
+        messages (bytes ++ more) ≡ record (messages bytes) { rest = (messages bytes).rest ++ more } }
 {}
 
 /// A field is its entries one behind the other, and it is cut into these alone.

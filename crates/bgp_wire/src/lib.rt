@@ -13,12 +13,14 @@ mod refresh;
 mod writing;
 
 pub use front::Cut;
-pub use header::cut;
+pub use header::{HEADER_LENGTH, LONGEST, cut};
 pub use laws::{entries_split, messages_split};
 pub use notify::Notify;
 pub use open::{Encoding, OpenFacts, OpenRules, read_open};
 pub use refresh::read_refresh;
-pub use writing::{write_keepalive, write_notification, write_open, write_refresh};
+pub use writing::{
+    AS_TRANS, put_header, write_keepalive, write_notification, write_open, write_refresh,
+};
 
 #[cfg(test)]
 mod tests;

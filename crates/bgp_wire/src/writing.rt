@@ -1,8 +1,8 @@
 ghost use Rattle.std.specs.Prelude.{◌≡◌, ◌<◌, ◌++◌, [], flat_map, length, OnOk, OnErr, nat_lt, if◌then◌else◌};
-ghost use Rattle.bgp_wire.specs.Message.{message_bytes, header_bytes, IsMessage};
+ghost use Rattle.bgp_wire.specs.Message.{message_bytes, message_header, IsMessage};
 ghost use Rattle.bgp_wire.specs.Entries.{entry_bytes};
 ghost use Rattle.bgp_wire.specs.Open.{answer_to, open_of};
-ghost use Rattle.bgp_wire.specs.Written.{announced, capabilities_by, optional_by, fixed_by, open_by, notification, keepalive, refresh_of, refreshed_family, IsAcceptable, HaveWidth, facts_by, Keeps};
+ghost use Rattle.bgp_wire.specs.Written.{announced, capabilities_by, optional_by, fixed_by, open_by, notification, keepalive, refresh_of, refreshed_family, IsAcceptable, RulesHaveWidth, facts_by, Keeps};
 
 use crate::kind::{KEEPALIVE, NOTIFICATION, OPEN, ROUTE_REFRESH};
 use crate::open::VERSION;
@@ -11,8 +11,8 @@ use byteorder::{BigEndian, ByteOrder};
 use net_base::{Family, NoMemory};
 use wire_buf::Pipe;
 
-/// The AS number that stands for one without two octets.
-const AS_TRANS: u16 = 23456;
+/// The AS number that stands for one without two octets (RFC 6793, section 9).
+pub const AS_TRANS: u16 = 23456;
 
 /// Writes the own OPEN (RFC 4271, section 4.2) behind what `out` holds.
 ///
@@ -27,13 +27,8 @@ pub fn write_open(mine: &OpenRules, out: &mut Pipe) -> Result<(), NoMemory>
         answer_to (open_of (open_by mine.now).body) theirs ≡ Ok (facts_by mine.now theirs)) }
 {
     let held = out.len();
-    match put_open(mine, out) {
-        Ok(()) => Ok(()),
-        Err(error) => {
-            out.truncate(held);
-            Err(error)
-        }
-    }
+    let written = put_open(mine, out);
+    out.keep_on_err(held, written)
 }
 
 /// Writes a NOTIFICATION without data (RFC 4271, section 4.5) behind what `out` holds. Where memory is
@@ -78,10 +73,7 @@ fn write_message(kind: u8, body: &[u8], out: &mut Pipe) -> Result<(), NoMemory>
 {
     let held = out.len();
     let written = put_message(kind, body, out);
-    if written.is_err() {
-        out.truncate(held);
-    }
-    written
+    out.keep_on_err(held, written)
 }
 
 fn put_message(kind: u8, body: &[u8], out: &mut Pipe) -> Result<(), NoMemory>
@@ -93,8 +85,10 @@ fn put_message(kind: u8, body: &[u8], out: &mut Pipe) -> Result<(), NoMemory>
     out.push(body)
 }
 
-fn put_header(kind: u8, size: u16, out: &mut Pipe) -> Result<(), NoMemory>
-    ensures ok { OnOk result (out.new ≡ out.old ++ header_bytes kind size) }
+/// Puts the header of a message of so many bytes behind what `out` holds (RFC 4271, section 4.1). Where memory is refused, `out`
+/// begins with what it held.
+pub fn put_header(kind: u8, size: u16, out: &mut Pipe) -> Result<(), NoMemory>
+    ensures ok { OnOk result (out.new ≡ out.old ++ message_header kind size) }
     ensures err { OnErr result (Keeps out.old out.new) }
 {
     out.push(&[0xff; 16])?;
@@ -103,7 +97,7 @@ fn put_header(kind: u8, size: u16, out: &mut Pipe) -> Result<(), NoMemory>
 }
 
 fn put_open(mine: &OpenRules, out: &mut Pipe) -> Result<(), NoMemory>
-    ensures width { OnOk result (HaveWidth mine.now) }
+    ensures width { OnOk result (RulesHaveWidth mine.now) }
     ensures ok { OnOk result (out.new ≡ out.old ++ message_bytes (open_by mine.now)) }
     ensures err { OnErr result (Keeps out.old out.new) }
 {
@@ -116,7 +110,7 @@ fn put_open(mine: &OpenRules, out: &mut Pipe) -> Result<(), NoMemory>
 // The body of an OPEN, whose optional parameters have so many bytes.
 fn put_open_body(mine: &OpenRules, optional: u8, out: &mut Pipe) -> Result<(), NoMemory>
     requires { optional ≡ length (optional_by mine.now) }
-    ensures width { OnOk result (HaveWidth mine.now) }
+    ensures width { OnOk result (RulesHaveWidth mine.now) }
     ensures ok { OnOk result (out.new ≡ out.old ++ (open_by mine.now).body) }
     ensures err { OnErr result (Keeps out.old out.new) }
 {
@@ -127,7 +121,7 @@ fn put_open_body(mine: &OpenRules, optional: u8, out: &mut Pipe) -> Result<(), N
 
 // The fields of an OPEN before its optional parameters.
 fn put_fixed(mine: &OpenRules, out: &mut Pipe) -> Result<(), NoMemory>
-    ensures width { OnOk result (HaveWidth mine.now) }
+    ensures width { OnOk result (RulesHaveWidth mine.now) }
     ensures ok { OnOk result (out.new ≡ out.old ++ fixed_by mine.now) }
     ensures err { OnErr result (Keeps out.old out.new) }
 {

@@ -2,7 +2,8 @@
 #![tactic(auto)]
 
 use bgpd_top::bgpd_main;
-use io_edge::{HostClock, HostFiles, MemoryNet, ReaderSource, TableMemory, WriterSink};
+use io_edge::{HostClock, HostFiles, MemoryNet, ReaderSource, WriterSink};
+use kroute::TableMemory;
 use net_base::Items;
 use std::alloc::Global;
 use std::process::ExitCode;

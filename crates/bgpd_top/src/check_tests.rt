@@ -3,8 +3,8 @@
 use crate::bgpd_main;
 use io_edge::{
     CallList, Failures, MemoryClock, MemoryFile, MemoryFiles, MemoryNet, MemorySink, MemorySource,
-    TableMemory,
 };
+use kroute::TableMemory;
 use net_base::{Bytes, Items};
 use std::alloc::{AllocError, Global};
 use std::test::Fail;

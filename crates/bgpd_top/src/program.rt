@@ -11,8 +11,9 @@ use crate::checking::check_file;
 use crate::replay::EventReader;
 use crate::serving::{ServeFault, serve};
 use cores_link::Router;
-use io_edge::{Clock, Failed, Files, Kernel, PeerNet, Sink, Source};
+use io_edge::{Clock, Failed, Files, PeerNet, Sink, Source};
 use itoa::Buffer;
+use kroute::Kernel;
 use std::alloc::Global;
 
 /// What the words ask for.

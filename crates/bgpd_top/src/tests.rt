@@ -1,7 +1,6 @@
 use crate::bgpd_main;
-use io_edge::{
-    CallList, Failures, MemoryClock, MemoryFiles, MemoryNet, MemorySink, MemorySource, TableMemory,
-};
+use io_edge::{CallList, Failures, MemoryClock, MemoryFiles, MemoryNet, MemorySink, MemorySource};
+use kroute::TableMemory;
 use net_base::{Bytes, Items};
 use std::alloc::{AllocError, Global};
 use std::test::Fail;
@@ -71,7 +70,7 @@ fn replay(alloc: Global, input: &[u8]) -> Result<Ran, AllocError> {
 #[test]
 fn event_files_give_their_transcripts(rt: HostRuntime) -> Result<(), Fail> {
     let alloc = rt.alloc();
-    let rows: [(&[u8], &[u8], u8, &[u8]); 12] = [
+    let rows: [(&[u8], &[u8], u8, &[u8]); 16] = [
         (b"", b"", 0, b""),
         (b"# nothing\n\n", b"", 0, b""),
         (
@@ -87,7 +86,7 @@ fn event_files_give_their_transcripts(rt: HostRuntime) -> Result<(), Fail> {
             b"",
         ),
         (
-            b"open\nctl\nctl show  rib\ntime x\n",
+            b"open 10.0.0.2 in\nctl\nctl show  rib\ntime 5\n",
             b"refused NotBuilt\nrefused NotBuilt\nrefused NotBuilt\nrefused NotBuilt\n",
             0,
             b"",
@@ -98,8 +97,22 @@ fn event_files_give_their_transcripts(rt: HostRuntime) -> Result<(), Fail> {
             0,
             b"",
         ),
+        (
+            b"time 9223372036854775807\nopen 2001:DB8:0::2 out\nbytes 10.0.0.2 00fF\nclose 10.0.0.2\nkroute 192.0.2.9/24 up\nkroute ::/0 down\n",
+            b"refused NotBuilt\nrefused NotBuilt\nrefused NotBuilt\nrefused NotBuilt\nrefused NotBuilt\nrefused NotBuilt\n",
+            0,
+            b"",
+        ),
+        (
+            b"deliver sr 4294967295\nwork 0\nwrite 10.0.0.2 16\nstall 10.0.0.2\nflow 10.0.0.2\nturn 1\ncut ps\nkfail 0 1\n",
+            b"refused NotBuilt\nrefused NotBuilt\nrefused NotBuilt\nrefused NotBuilt\nrefused NotBuilt\nrefused NotBuilt\nrefused NotBuilt\nrefused NotBuilt\n",
+            0,
+            b"",
+        ),
         (b"settle\nsettle \n", b"quiet\n", 3, b"line 2: bad event\n"),
         (b"settle\nsettles\n", b"quiet\n", 3, b"line 2: bad event\n"),
+        (b"settle\ntime x\n", b"quiet\n", 3, b"line 2: bad event\n"),
+        (b"open\n", b"", 3, b"line 1: bad event\n"),
         (b"reload 1\n.\n", b"", 3, b"line 1: bad event\n"),
         (b"reload\nAS 65001\n", b"", 3, b"line 2: bad event\n"),
         (b"# a\nreload", b"", 3, b"line 2: bad event\n"),
@@ -110,6 +123,34 @@ fn event_files_give_their_transcripts(rt: HostRuntime) -> Result<(), Fail> {
         assert_eq!(rt; ran.status, status);
         assert_eq!(rt; ran.out.as_slice(), out);
         assert_eq!(rt; ran.err.as_slice(), err);
+    }
+    Ok(())
+}
+
+#[test]
+fn lines_outside_the_grammar(rt: HostRuntime) -> Result<(), Fail> {
+    let alloc = rt.alloc();
+    let lines: [&[u8]; 15] = [
+        b"frobnicate",
+        b"time 9223372036854775808",
+        b"time 01",
+        b"open 10.0.0.2",
+        b"open 10.0.0.2 up",
+        b"bytes 10.0.0.2 0",
+        b"bytes 10.0.0.2 ",
+        b"kroute 192.0.2.0/33 up",
+        b"deliver rr 1",
+        b"work 4294967296",
+        b"kfail 0 0",
+        b"stop  now",
+        b"reload now",
+        b"ctls",
+        b"time\t1",
+    ];
+    for line in lines {
+        let ran = replay(alloc, line)?;
+        assert_eq!(rt; ran.status, 3);
+        assert_eq!(rt; ran.err.as_slice(), b"line 1: bad event\n".as_slice());
     }
     Ok(())
 }

@@ -12,12 +12,12 @@ use Rattle.std.proofs.lemmas.Slice.Eq.{bytes_eq-Decides}
 use Rattle.net_base.specs.declared.addr.Addr.{Addr}
 use Rattle.net_base.specs.Order.{addr_cmp}
 use Rattle.net_base.proofs.Order.{addr_cmp-total}
-use Rattle.conf_check.proofs.Orders.{derived_addr_order, addr_same}
+use Rattle.conf_tree.proofs.Orders.{derived_addr_order, addr_same}
 use Rattle.conf_tree.specs.declared.conf.Conf.{Conf}
 use Rattle.conf_tree.specs.declared.neighbour.Neighbour.{Neighbour}
 use Rattle.conf_tree.specs.Canonical.{is_alone, is_of_group, group_names}
 use Rattle.conf_tree.specs.Checks.{same_addr}
-use Rattle.conf_kept.specs.Settled.{IsSettled}
+use Rattle.conf_tree.specs.Settled.{IsSettled}
 use Rattle.conf_back.proofs.Merged.{all_kept}
 use Rattle.conf_back.proofs.GroupNames.{covered, groups_differ}
 use Rattle.conf_back.proofs.PlacedBack.{written}

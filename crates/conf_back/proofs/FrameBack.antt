@@ -19,9 +19,9 @@ use Rattle.conf_tree.specs.declared.sets.PrefixSetConf.{PrefixSetConf}
 use Rattle.conf_tree.specs.Canonical.{is_alone, group_names}
 use Rattle.conf_tree.specs.Said.{last, roas_of}
 use Rattle.conf_tree.specs.Flat.{text_cmp, range_cmp, roa_cmp, in_order, by_key, default_socket, prefix_sets_of, as_sets_of, origin_sets_of, roas_said, networks_of, frame_of}
-use Rattle.conf_kept.specs.Readable.{Each}
-use Rattle.conf_kept.specs.Settled.{IsSettled}
-use Rattle.conf_round.proofs.ReadConf.{listen_unit, rib_unit, prefix_set_unit, as_set_unit, origin_set_unit, roa_units, network_unit, neighbour_unit, group_unit, rule_unit, qualify_units}
+use Rattle.conf_tree.specs.Readable.{Each}
+use Rattle.conf_tree.specs.Settled.{IsSettled}
+use Rattle.conf_tree.specs.CanonicalDraft.{listen_unit, rib_unit, prefix_set_unit, as_set_unit, origin_set_unit, roa_units, network_unit, neighbour_unit, group_unit, rule_unit, qualify_units}
 use Rattle.conf_back.proofs.Framed.{framed, lines_back}
 use Rattle.conf_back.proofs.Told.{Tells, nothing, none_tell, Parts, all_told}
 use Rattle.conf_back.proofs.Selected.{if_true, as_said, router_id_said, hold_said, hold_min_said, fib_update_said, qualify_said, med_always_said, socket_said, listens_said, ribs_said, prefix_sets_said, as_sets_said, origin_sets_said, networks_said}

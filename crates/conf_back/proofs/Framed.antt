@@ -2,7 +2,7 @@
 use Rattle.std.proofs.Common.{List, []}
 use Rattle.conf_tree.specs.declared.conf.Conf.{Conf}
 use Rattle.conf_tree.specs.declared.draft.StatementLine.{StatementLine}
-use Rattle.conf_round.proofs.ReadConf.{canonical_draft}
+use Rattle.conf_tree.specs.CanonicalDraft.{canonical_draft}
 
 abbrev pub framed : Conf → Conf
 framed conf = record conf { neighbours = []; rules = [] }

@@ -11,13 +11,13 @@ use Rattle.std.proofs.lemmas.Map.Keys.{IsDistinct-from_sorted}
 use Rattle.std.proofs.lemmas.Map.Lookups.{exact_bytes}
 use Rattle.std.proofs.lemmas.List.Folds.{list_any-append}
 use Rattle.std.proofs.lemmas.Slice.Eq.{bytes_eq-Decides}
-use Rattle.conf_check.proofs.Orders.{text_same}
+use Rattle.conf_tree.proofs.Orders.{text_same}
 use Rattle.conf_tree.specs.declared.neighbour.Neighbour.{Neighbour}
 use Rattle.conf_tree.specs.Canonical.{with_name, is_alone, is_of_group, group_names}
 use Rattle.conf_tree.specs.Flat.{text_cmp}
-use Rattle.conf_kept.specs.Readable.{Each, IfThere}
-use Rattle.conf_kept.proofs.GroupNames.{names_sorted}
-use Rattle.conf_kept.proofs.Each.{each_insert}
+use Rattle.conf_tree.specs.Readable.{Each, IfThere}
+use Rattle.conf_tree.proofs.GroupNames.{names_sorted}
+use Rattle.conf_tree.proofs.Each.{each_insert}
 use Rattle.conf_back.proofs.NamesBack.{same_name}
 
 -- ---- a name put in at its place

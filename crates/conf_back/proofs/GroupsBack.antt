@@ -1,5 +1,5 @@
 -- The groups of a canonical text: no name comes twice, and each group that some neighbour has is there.
-use Rattle.std.proofs.Common.{◌≡◌, ◌∙◌, ℕ, ◌+◌, Bool, true, false, cond, ◌||◌, List, [], ◌∷◌, ◌++◌, length, map, filter, Option, Some, None, refl, sym, ap, subst}
+use Rattle.std.proofs.Common.{◌≡◌, ◌∙◌, ℕ, ◌+◌, Bool, true, false, cond, ◌||◌, List, [], ◌∷◌, ◌++◌, map, filter, Option, Some, None, refl, sym, ap, subst}
 use Rattle.std.specs.Prelude.{bytes_eq, option_map}
 use Rattle.std.specs.List.{cons_option, list_any, IsDistinct}
 use Rattle.std.proofs.lemmas.Cmp.{nat_list_eq_equiv}
@@ -10,10 +10,8 @@ use Rattle.conf_tree.specs.declared.draft.StatementLine.{StatementLine}
 use Rattle.conf_tree.specs.declared.neighbour.Neighbour.{Neighbour}
 use Rattle.conf_tree.specs.Canonical.{is_alone, is_of_group, group_names}
 use Rattle.conf_tree.specs.Checks.{named, group_name_of, double_of, named_if_full, full_group, groups_of}
-use Rattle.conf_kept.specs.Readable.{Each}
-use Rattle.conf_round.proofs.ReadNeighbours.{blocks_of}
-use Rattle.conf_round.proofs.ReadWhole.{Printed, statements_from}
-use Rattle.conf_round.proofs.ReadConf.{neighbour_unit, group_unit, rule_unit}
+use Rattle.conf_tree.specs.Readable.{Each}
+use Rattle.conf_tree.specs.CanonicalDraft.{blocks_of, StatementUnit, statements_from, neighbour_unit, group_unit, rule_unit}
 use Rattle.conf_back.proofs.Framed.{lines_back}
 use Rattle.conf_back.proofs.GroupNames.{groups_differ, groups_full, group_there}
 use Rattle.conf_back.proofs.Differing.{no_double}
@@ -34,9 +32,9 @@ module _ (conf : Conf) where
   others_pass : (names : List (List ℕ)) (s : Statement) → is_no_peer s ≡ true → Passes (Names names) s
   others_pass names s quiet line ls h = ap (λ (o : Option (List ℕ)). map (λ e. e.1) (cons_option (option_map (λ name. (line, name)) o) (named group_name_of ls))) (unnamed s quiet) ∙ h
 
-  groups_name : (names : List (List ℕ)) (us : List Printed) → HoldsOf (Names []) us → HoldsOf (Names names) (map (group_unit conf) names ++ us)
+  groups_name : (names : List (List ℕ)) (us : List StatementUnit) → HoldsOf (Names []) us → HoldsOf (Names names) (map (group_unit conf) names ++ us)
   groups_name [] us h = h
-  groups_name (name ∷ names) us h = record { from = λ line. ap (λ (found : List (List ℕ)). name ∷ found) ((groups_name names us h).from (line + length (group_unit conf name).0)) }
+  groups_name (name ∷ names) us h = record { from = λ line. ap (λ (found : List (List ℕ)). name ∷ found) ((groups_name names us h).from (line + (group_unit conf name).0)) }
 
   pub names_back : map (λ e. e.1) (named group_name_of (lines_back conf)) ≡ group_names conf.neighbours
   names_back =
@@ -69,12 +67,12 @@ module _ (conf : Conf) where
       by true some behind = refl
       by false some behind = behind some
 
-  groups_found : (names : List (List ℕ)) (us : List Printed) → Each (λ name. list_any (is_of_group name) conf.neighbours ≡ true) names → HoldsOf (Groups []) us → HoldsOf (Groups names) (map (group_unit conf) names ++ us)
+  groups_found : (names : List (List ℕ)) (us : List StatementUnit) → Each (λ name. list_any (is_of_group name) conf.neighbours ≡ true) names → HoldsOf (Groups []) us → HoldsOf (Groups names) (map (group_unit conf) names ++ us)
   groups_found [] us all h = h
   groups_found (name ∷ names) us all h = record {
     from = λ line.
-        ap (λ (o : Option (List ℕ)). cons_option o (groups_of (statements_from (line + length (group_unit conf name).0) (map (group_unit conf) names ++ us)))) (full name (line + 1) conf.neighbours all.0)
-        ∙ ap (λ (found : List (List ℕ)). name ∷ found) ((groups_found names us all.1 h).from (line + length (group_unit conf name).0));
+        ap (λ (o : Option (List ℕ)). cons_option o (groups_of (statements_from (line + (group_unit conf name).0) (map (group_unit conf) names ++ us)))) (full name (line + 1) conf.neighbours all.0)
+        ∙ ap (λ (found : List (List ℕ)). name ∷ found) ((groups_found names us all.1 h).from (line + (group_unit conf name).0));
   }
 
   pub groups_back : groups_of (lines_back conf) ≡ group_names conf.neighbours

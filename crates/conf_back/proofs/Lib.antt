@@ -1,21 +1,21 @@
-pub mod Framed
-pub mod Told
-pub mod Selected
-pub mod InOrder
-pub mod FrameBack
-pub mod NamesBack
-pub mod RibsBack
-pub mod RulesBack
-pub mod Differing
-pub mod NoDoubles
-pub mod RulesKnown
-pub mod Merged
-pub mod GroupNames
-pub mod OptionsBack
-pub mod PlacedBack
-pub mod PeerLines
-pub mod NeighbourBack
-pub mod NeighboursBack
-pub mod AddressesDiffer
-pub mod GroupsBack
+mod Framed
+mod Told
+mod Selected
+mod InOrder
+mod FrameBack
+mod NamesBack
+mod RibsBack
+mod RulesBack
+mod Differing
+mod NoDoubles
+mod RulesKnown
+mod Merged
+mod GroupNames
+mod OptionsBack
+mod PlacedBack
+mod PeerLines
+mod NeighbourBack
+mod NeighboursBack
+mod AddressesDiffer
+mod GroupsBack
 pub mod Whole

@@ -8,14 +8,14 @@ use Rattle.std.specs.Cmp.Lexicographic.{nat_list_cmp_total}
 use Rattle.std.proofs.lemmas.Bool.Decides.{nat_tests}
 use Rattle.std.proofs.lemmas.Cmp.{nat_list_eq_equiv}
 use Rattle.std.proofs.lemmas.Map.Keys.{IsDistinct-from_sorted}
-use Rattle.conf_check.proofs.Orders.{text_same}
+use Rattle.conf_tree.proofs.Orders.{text_same}
 use Rattle.conf_tree.specs.declared.conf.Conf.{Conf}
 use Rattle.conf_tree.specs.declared.sets.SetId.{SetId}
 use Rattle.conf_tree.specs.declared.sets.SetKind.{SetKind}
 use Rattle.conf_tree.specs.declared.sets.SetKind.TheVariants as kinds
 use Rattle.conf_tree.specs.Canonical.{name_at, prefix_set_name, as_set_name, origin_set_name}
 use Rattle.conf_tree.specs.Flat.{text_cmp, below, place_of, set_id, prefix_set_id, as_set_id, origin_set_id}
-use Rattle.conf_kept.specs.Settled.{IsSettled, IsKnownSet}
+use Rattle.conf_tree.specs.Settled.{IsSettled, IsKnownSet}
 use Rattle.conf_back.proofs.Framed.{framed}
 use Rattle.conf_back.proofs.InOrder.{keys_sorted}
 

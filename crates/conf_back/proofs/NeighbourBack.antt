@@ -7,8 +7,8 @@ use Rattle.conf_tree.specs.declared.conf.Conf.{Conf}
 use Rattle.conf_tree.specs.declared.neighbour.Neighbour.{Neighbour}
 use Rattle.conf_tree.specs.Flat.{taken, neighbour_of, rib_number}
 use Rattle.conf_tree.specs.Said.{rib_option_of}
-use Rattle.conf_kept.specs.Readable.{IsNeighbour, IsWithinLimits}
-use Rattle.conf_kept.specs.Settled.{IsSettled}
+use Rattle.conf_tree.specs.Readable.{IsNeighbour, IsWithinLimits}
+use Rattle.conf_tree.specs.Settled.{IsSettled}
 use Rattle.conf_back.proofs.Framed.{framed}
 use Rattle.conf_back.proofs.RibsBack.{rib_number_back}
 use Rattle.conf_back.proofs.OptionsBack.{placed_as, remote_as_taken, port_taken, hold_taken, hold_min_taken, v4_taken, v6_taken, refresh_taken, as_4byte_taken, rib_taken, local_address_taken, description_taken, passive_taken, down_taken, multihop_taken, max_prefix_taken, set_taken}

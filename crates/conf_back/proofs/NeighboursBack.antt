@@ -13,10 +13,10 @@ use Rattle.conf_tree.specs.Canonical.{is_alone, is_of_group, group_names}
 use Rattle.conf_tree.specs.Flat.{Placed, placed, taken, neighbour_of, by_key, neighbours_of}
 use Rattle.conf_tree.specs.Said.{remote_as_of, local_address_of, rib_option_of}
 use Rattle.conf_tree.specs.Checks.{same_addr, fault_at, fault_of, is_mismatch, is_unknown_rib, double_neighbour, without_as, family_mismatch, unknown_neighbour}
-use Rattle.conf_kept.specs.Readable.{Each, IfThere, IsNeighbour, IsReadable, IsWithinLimits, members_of}
-use Rattle.conf_kept.specs.Settled.{HasOneFamily, IsSettled}
-use Rattle.conf_kept.proofs.Each.{each_filter}
-use Rattle.conf_kept.proofs.Each.{each_append, each_both}
+use Rattle.conf_tree.specs.Readable.{Each, IfThere, IsNeighbour, IsReadable, IsWithinLimits, members_of}
+use Rattle.conf_tree.specs.Settled.{HasOneFamily, IsSettled}
+use Rattle.conf_tree.proofs.Each.{each_filter}
+use Rattle.conf_tree.proofs.Each.{each_append, each_both}
 use Rattle.conf_back.proofs.Framed.{framed, lines_back}
 use Rattle.conf_back.proofs.Merged.{merged}
 use Rattle.conf_back.proofs.GroupNames.{covered}

@@ -11,7 +11,7 @@ use Rattle.conf_tree.specs.declared.draft.StatementLine.{StatementLine}
 use Rattle.conf_tree.specs.Said.{said, rib_of}
 use Rattle.conf_tree.specs.Flat.{loc_rib}
 use Rattle.conf_tree.specs.Checks.{named, rib_name_of, rib_table_of, prefix_set_name_of, as_set_name_of, origin_set_name_of, double_of, double_rib, double_table}
-use Rattle.conf_kept.specs.Settled.{IsSettled}
+use Rattle.conf_tree.specs.Settled.{IsSettled}
 use Rattle.conf_back.proofs.Framed.{lines_back}
 use Rattle.conf_back.proofs.Selected.{ribs_said, rib_names_said, prefix_set_names_said, as_set_names_said, origin_set_names_said}
 use Rattle.conf_back.proofs.NamesBack.{distinct_names}

@@ -13,8 +13,7 @@ use Rattle.conf_tree.specs.declared.rule.Item.{Item}
 use Rattle.conf_tree.specs.Canonical.{rib_name}
 use Rattle.conf_tree.specs.Flat.{Placed, taken}
 use Rattle.conf_tree.specs.Said.{last, last_option, remote_as_of, local_address_of, description_of, port_of, passive_of, down_of, multihop_of, hold_option_of, hold_min_option_of, announce_v4_of, announce_v6_of, announce_refresh_of, announce_as_4byte_of, max_prefix_of, rib_option_of, set_option_of}
-use Rattle.conf_round.proofs.ReadOptions.{given_options, set_options, items_options, open_of, options_of}
-use Rattle.conf_round.proofs.ReadNeighbours.{numbered, block_of}
+use Rattle.conf_tree.specs.CanonicalDraft.{given_options, set_options, items_options, open_options_of, options_of, numbered, block_of}
 
 -- a neighbour as it stands in the text, with its first line
 abbrev pub placed_as : Conf → ℕ → Neighbour → Placed
@@ -59,7 +58,7 @@ module _ {A : Type 0} (what : NeighbourOption → Option A) where
   abbrev all_of : Conf → Neighbour → (own about silent shut hops most set : List A) → List A
   all_of conf n own about silent shut hops most set =
       cons_option (what (options.RemoteAs n.remote_as)) (own ++ (about ++ cons_option (what (options.Port n.port)) (silent ++ (shut ++ hops))))
-      ++ (filter_map what (open_of n) ++ (most ++ cons_option (what (options.Rib (rib_name conf n.rib))) set))
+      ++ (filter_map what (open_options_of n) ++ (most ++ cons_option (what (options.Rib (rib_name conf n.rib))) set))
 
   selected : (conf : Conf) (n : Neighbour) → filter_map what (options_of conf n)
       ≡ all_of conf n (given options.LocalAddress n.local_address) (given options.Description n.description) (flagged n.passive options.Passive) (flagged n.down options.Down)

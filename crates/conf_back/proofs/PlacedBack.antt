@@ -1,5 +1,5 @@
 -- The neighbours that stand in the statements of a canonical text are those of the configuration, each with its options.
-use Rattle.std.proofs.Common.{◌≡◌, ◌∙◌, ℕ, ◌+◌, true, false, not, List, [], ◌∷◌, ◌++◌, length, map, filter, flat_map, Option, Some, None, refl, sym, ap, subst, append_assoc, append-nil}
+use Rattle.std.proofs.Common.{◌≡◌, ◌∙◌, ℕ, ◌+◌, true, false, not, List, [], ◌∷◌, ◌++◌, map, filter, flat_map, Option, Some, None, refl, sym, ap, subst, append_assoc, append-nil}
 use Rattle.std.specs.Prelude.{bytes_eq, is_some}
 use Rattle.std.specs.Option.{option_map_or}
 use Rattle.std.specs.List.{AllByRecursion}
@@ -12,10 +12,8 @@ use Rattle.conf_tree.specs.declared.draft.StatementLine.{StatementLine}
 use Rattle.conf_tree.specs.declared.neighbour.Neighbour.{Neighbour}
 use Rattle.conf_tree.specs.Canonical.{is_alone, is_of_group, group_names}
 use Rattle.conf_tree.specs.Flat.{Placed, placed_in, placed}
-use Rattle.conf_kept.specs.Readable.{members_of}
-use Rattle.conf_round.proofs.ReadNeighbours.{block_of, next_line, blocks_of}
-use Rattle.conf_round.proofs.ReadWhole.{Printed, statements_from}
-use Rattle.conf_round.proofs.ReadConf.{neighbour_unit, group_unit, rule_unit}
+use Rattle.conf_tree.specs.Readable.{members_of}
+use Rattle.conf_tree.specs.CanonicalDraft.{block_of, block_length, blocks_of, StatementUnit, statements_from, neighbour_unit, group_unit, rule_unit}
 use Rattle.conf_back.proofs.Framed.{lines_back}
 use Rattle.conf_back.proofs.OptionsBack.{placed_as}
 use Rattle.conf_back.proofs.Merged.{passing}
@@ -63,7 +61,7 @@ members_placed : (conf : Conf) (name : List ℕ) (line : ℕ) (ns : List Neighbo
 members_placed conf name line [] all = tt
 members_placed conf name line (n ∷ ns) all = (
   record { line = line; is = λ i. record { group = sym (member_group name n n.group refl all.0) i; shared = []; block = block_of conf line n } },
-  members_placed conf name (next_line conf line n) ns all.1,
+  members_placed conf name (line + block_length conf n) ns all.1,
 )
 
 -- ---- the statements
@@ -82,16 +80,16 @@ module _ (conf : Conf) where
   unfolding placed
   others_pass ns s quiet line ls h = subst (λ (ps : List Placed). ArePlacedAs conf (ps ++ placed ls) ns) (sym (no_place s quiet)) h
 
-  alone_give : (ns ms : List Neighbour) (us : List Printed) → AllByRecursion (λ n. is_alone n ≡ true) ns → HoldsOf (Gives ms) us → HoldsOf (Gives (ns ++ ms)) (map (neighbour_unit conf) ns ++ us)
+  alone_give : (ns ms : List Neighbour) (us : List StatementUnit) → AllByRecursion (λ n. is_alone n ≡ true) ns → HoldsOf (Gives ms) us → HoldsOf (Gives (ns ++ ms)) (map (neighbour_unit conf) ns ++ us)
   unfolding placed
   alone_give [] ms us all h = h
   alone_give (n ∷ ns) ms us all h = record {
     from = λ line.
         both_placed conf (placed_in (says.Neighbour (block_of conf line n))) _ (n ∷ []) (ns ++ ms) (alone_placed conf line n all.0)
-        ((alone_give ns ms us all.1 h).from (line + length (neighbour_unit conf n).0));
+        ((alone_give ns ms us all.1 h).from (line + (neighbour_unit conf n).0));
   }
 
-  groups_give : (names : List (List ℕ)) (ms : List Neighbour) (us : List Printed) → HoldsOf (Gives ms) us → HoldsOf (Gives (flat_map (members_of conf) names ++ ms)) (map (group_unit conf) names ++ us)
+  groups_give : (names : List (List ℕ)) (ms : List Neighbour) (us : List StatementUnit) → HoldsOf (Gives ms) us → HoldsOf (Gives (flat_map (members_of conf) names ++ ms)) (map (group_unit conf) names ++ us)
   unfolding placed
   groups_give [] ms us h = h
   groups_give (name ∷ names) ms us h = record {
@@ -99,7 +97,7 @@ module _ (conf : Conf) where
         subst (λ (ns : List Neighbour). Gives ns (statements_from line (map (group_unit conf) (name ∷ names) ++ us))) (sym (append_assoc (members_of conf name) (flat_map (members_of conf) names) ms))
         (both_placed conf (map (placed_member name) (blocks_of conf (line + 1) (members_of conf name))) _ (members_of conf name) (flat_map (members_of conf) names ++ ms)
         (members_placed conf name (line + 1) (members_of conf name) (passing (is_of_group name) conf.neighbours))
-        ((groups_give names ms us h).from (line + length (group_unit conf name).0)));
+        ((groups_give names ms us h).from (line + (group_unit conf name).0)));
   }
 
   none_placed : Gives [] []

@@ -11,8 +11,8 @@ use Rattle.conf_tree.specs.declared.conf.Rib.{Rib}
 use Rattle.conf_tree.specs.Names.{is_name}
 use Rattle.conf_tree.specs.Canonical.{name_at, rib_name}
 use Rattle.conf_tree.specs.Flat.{loc_rib, below, place_of, rib_number}
-use Rattle.conf_kept.specs.Readable.{IsName, IsWithinLimits}
-use Rattle.conf_kept.specs.Settled.{IsSettled}
+use Rattle.conf_tree.specs.Readable.{IsName, IsWithinLimits}
+use Rattle.conf_tree.specs.Settled.{IsSettled}
 use Rattle.conf_back.proofs.NamesBack.{place_back}
 
 -- ---- names that are the same, and names that differ

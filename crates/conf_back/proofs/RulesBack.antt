@@ -10,10 +10,9 @@ use Rattle.conf_tree.specs.declared.rule.Rule.{Rule}
 use Rattle.conf_tree.specs.declared.sets.SetId.{SetId}
 use Rattle.conf_tree.specs.Canonical.{rib_name}
 use Rattle.conf_tree.specs.Flat.{rib_number, ways, followed_by, chosen, choices, flat_conditions, rule_with, flat_rules, rules_of}
-use Rattle.conf_kept.specs.Readable.{Each, IsRuleRib, IsRule, IsWithinLimits}
-use Rattle.conf_kept.specs.Settled.{IsSettled, IsKnownCondition, IsKnownRule}
-use Rattle.conf_round.proofs.ReadRules.{written}
-use Rattle.conf_round.proofs.ReadRuleLines.{rule_block}
+use Rattle.conf_tree.specs.Readable.{Each, IsRuleRib, IsRule, IsWithinLimits}
+use Rattle.conf_tree.specs.Settled.{IsSettled, IsKnownCondition, IsKnownRule}
+use Rattle.conf_tree.specs.CanonicalDraft.{condition_block, rule_block}
 use Rattle.conf_back.proofs.Framed.{framed, lines_back}
 use Rattle.conf_back.proofs.Selected.{rules_said}
 use Rattle.conf_back.proofs.NamesBack.{prefix_set_back, as_set_back, origin_set_back}
@@ -37,7 +36,7 @@ module _ (conf : Conf) (s : IsSettled conf) where
   named : (make : SetId → Condition) (o : Option SetId) (set : SetId) → o ≡ Some set → option_to_list (option_map make o) ∷ [] ≡ (make set ∷ []) ∷ []
   named make o set e = ap (λ (found : Option SetId). option_to_list (option_map make found) ∷ []) e
 
-  ways_back : (c : Condition) → IsKnownCondition conf c → ways (framed conf) (written conf c) ≡ (c ∷ []) ∷ []
+  ways_back : (c : Condition) → IsKnownCondition conf c → ways (framed conf) (condition_block conf c) ≡ (c ∷ []) ∷ []
   unfolding ways
   ways_back (conditions.Prefix range) h = refl
   ways_back (conditions.PrefixSet set) h = named conditions.PrefixSet _ set (prefix_set_back conf s set h)
@@ -52,11 +51,11 @@ module _ (conf : Conf) (s : IsSettled conf) where
   ways_back (conditions.NextHop address) h = refl
   ways_back (conditions.Family family) h = refl
 
-  all_ways_back : (cs : List Condition) → Each (IsKnownCondition conf) cs → map (ways (framed conf)) (map (written conf) cs) ≡ map (λ lists. lists ∷ []) (map (λ c. c ∷ []) cs)
+  all_ways_back : (cs : List Condition) → Each (IsKnownCondition conf) cs → map (ways (framed conf)) (map (condition_block conf) cs) ≡ map (λ lists. lists ∷ []) (map (λ c. c ∷ []) cs)
   all_ways_back [] h = refl
   all_ways_back (c ∷ cs) h = λ i. ways_back c h.0 i ∷ all_ways_back cs h.1 i
 
-  conditions_back : (cs : List Condition) → Each (IsKnownCondition conf) cs → flat_conditions (framed conf) (map (written conf) cs) ≡ cs ∷ []
+  conditions_back : (cs : List Condition) → Each (IsKnownCondition conf) cs → flat_conditions (framed conf) (map (condition_block conf) cs) ≡ cs ∷ []
   unfolding flat_conditions
   conditions_back cs h =
       ap (λ (lists : List (List (List Condition))). flat_map choices (choices lists)) (all_ways_back cs h)
@@ -77,7 +76,7 @@ module _ (conf : Conf) (s : IsSettled conf) where
     flat_rules_back : (r : Rule) → IsRule conf r → IsKnownRule conf r → flat_rules (framed conf) (rule_block conf r) ≡ r ∷ []
     unfolding flat_rules
     flat_rules_back r h k =
-        append-nil (map (rule_with (framed conf) (rule_block conf r) r.peer) (flat_conditions (framed conf) (map (written conf) r.conditions)))
+        append-nil (map (rule_with (framed conf) (rule_block conf r) r.peer) (flat_conditions (framed conf) (map (condition_block conf) r.conditions)))
         ∙ ap (map (rule_with (framed conf) (rule_block conf r) r.peer)) (conditions_back r.conditions k.1)
         ∙ ap (λ (rule : Rule). rule ∷ []) (rule_with_back r h)
 

@@ -17,10 +17,9 @@ use Rattle.conf_tree.specs.declared.rule.Rule.{Rule}
 use Rattle.conf_tree.specs.Said.{said, rule_of}
 use Rattle.conf_tree.specs.Canonical.{is_of_group, rib_name}
 use Rattle.conf_tree.specs.Checks.{is_unknown_rib, groups_of, is_unknown_peer, is_unknown_set, has_unknown, is_unknown_rule, unknown_rule}
-use Rattle.conf_kept.specs.Readable.{Each, IsRuleRib, IsRule, IsWithinLimits}
-use Rattle.conf_kept.specs.Settled.{IsSettled, IsKnownPeer, IsKnownCondition, IsKnownRule}
-use Rattle.conf_round.proofs.ReadRules.{written}
-use Rattle.conf_round.proofs.ReadRuleLines.{rule_block}
+use Rattle.conf_tree.specs.Readable.{Each, IsRuleRib, IsRule, IsWithinLimits}
+use Rattle.conf_tree.specs.Settled.{IsSettled, IsKnownPeer, IsKnownCondition, IsKnownRule}
+use Rattle.conf_tree.specs.CanonicalDraft.{condition_block, rule_block}
 use Rattle.conf_back.proofs.Framed.{framed, lines_back}
 use Rattle.conf_back.proofs.Selected.{rules_said}
 use Rattle.conf_back.proofs.NamesBack.{prefix_set_back, as_set_back, origin_set_back}
@@ -50,7 +49,7 @@ module _ (conf : Conf) (fits : IsWithinLimits conf) (s : IsSettled conf) (groups
   peer_known (peers.Group name) h = ap not (group_known name h)
   peer_known _ h = refl
 
-  set_known : (c : Condition) → IsKnownCondition conf c → is_unknown_set (framed conf) (written conf c) ≡ false
+  set_known : (c : Condition) → IsKnownCondition conf c → is_unknown_set (framed conf) (condition_block conf c) ≡ false
   set_known (conditions.Prefix range) h = refl
   set_known (conditions.PrefixSet set) h = ap is_none (prefix_set_back conf s set h)
   set_known (conditions.PrefixSetOrLonger set) h = ap is_none (prefix_set_back conf s set h)
@@ -64,7 +63,7 @@ module _ (conf : Conf) (fits : IsWithinLimits conf) (s : IsSettled conf) (groups
   set_known (conditions.NextHop address) h = refl
   set_known (conditions.Family family) h = refl
 
-  sets_known : (cs : List Condition) → Each (IsKnownCondition conf) cs → list_any (is_unknown_set (framed conf)) (map (written conf) cs) ≡ false
+  sets_known : (cs : List Condition) → Each (IsKnownCondition conf) cs → list_any (is_unknown_set (framed conf)) (map (condition_block conf) cs) ≡ false
   sets_known [] h = refl
   sets_known (c ∷ cs) h = rw (set_known c h.0) (sets_known cs h.1)
 

@@ -1,51 +1,94 @@
 -- The selectors of statements, asked of a canonical text.
-use Rattle.std.proofs.Common.{◌≡◌, ◌∙◌, Bool, true, false, List, [], ◌∷◌, map, filter, refl, append-nil}
+use Rattle.std.proofs.Common.{◌≡◌, ◌∙◌, Bool, true, false, List, [], ◌∷◌, ◌++◌, map, filter, Option, None, refl, append-nil}
 use Rattle.conf_tree.specs.declared.conf.Conf.{Conf}
 use Rattle.conf_tree.specs.declared.conf.Listen.{Listen}
 use Rattle.conf_tree.specs.declared.conf.Rib.{Rib}
+use Rattle.conf_tree.specs.declared.draft.Statement.{Statement}
+use Rattle.conf_tree.specs.declared.draft.Statement.TheVariants as says
 use Rattle.conf_tree.specs.Canonical.{is_alone, group_names}
 use Rattle.conf_tree.specs.Said.{said, as_of, router_id_of, hold_of, hold_min_of, fib_update_of, qualify_default_of, med_always_of, socket_of, listen_of, rib_of, prefix_set_of, as_set_of, origin_set_of, network_of, rule_of}
 use Rattle.conf_tree.specs.Checks.{rib_name_of, prefix_set_name_of, as_set_name_of, origin_set_name_of}
-use Rattle.conf_round.proofs.ReadRuleLines.{rule_block}
-use Rattle.conf_round.proofs.ReadConf.{listen_unit, rib_unit, prefix_set_unit, as_set_unit, origin_set_unit, network_unit, neighbour_unit, group_unit, rule_unit, qualify_units}
+use Rattle.conf_tree.specs.CanonicalDraft.{rule_block, listen_unit, rib_unit, prefix_set_unit, as_set_unit, origin_set_unit, network_unit, neighbour_unit, group_unit, rule_unit, qualify_units}
 use Rattle.conf_back.proofs.Framed.{lines_back}
-use Rattle.conf_back.proofs.Told.{Tells, nothing, Parts, all_told, listed, said_told, no_qualify, no_roas, unasked, asked, silent}
+use Rattle.conf_back.proofs.Told.{Tells, nothing, Parts, all_told, listed, said_told, no_qualify, no_roas, unasked, asked, IsSilent, silent}
 
 -- `true`, if it is printed
 abbrev pub if_true : Bool → List Bool
 if_true true = true ∷ []
 if_true false = []
 
+-- what is asked of the globals alone is not asked of lists
+
+as_silent : IsSilent as_of
+as_silent (says.As asn) e = absurd (cc)
+as_silent _ e = refl
+
+router_id_silent : IsSilent router_id_of
+router_id_silent (says.RouterId id) e = absurd (cc)
+router_id_silent _ e = refl
+
+hold_silent : IsSilent hold_of
+hold_silent (says.Hold seconds) e = absurd (cc)
+hold_silent _ e = refl
+
+hold_min_silent : IsSilent hold_min_of
+hold_min_silent (says.HoldMin seconds) e = absurd (cc)
+hold_min_silent _ e = refl
+
+fib_update_silent : IsSilent fib_update_of
+fib_update_silent (says.FibUpdate on) e = absurd (cc)
+fib_update_silent _ e = refl
+
+med_always_silent : IsSilent med_always_of
+med_always_silent (says.MedCompare always) e = absurd (cc)
+med_always_silent _ e = refl
+
+socket_silent : IsSilent socket_of
+socket_silent (says.Socket path) e = absurd (cc)
+socket_silent _ e = refl
+
+qualify_silent : IsSilent qualify_default_of
+qualify_silent says.QualifyDefault e = absurd (cc)
+qualify_silent _ e = refl
+
 module _ (conf : Conf) where
   -- ---- globals
 
+  -- what is said of the globals, but for `nexthop qualify via default`
+  abbrev globals : {A : Type 0} → (Statement → List A) → List A
+  globals what = what (says.As conf.asn) ++ (what (says.RouterId conf.router_id) ++ (what (says.Hold conf.hold) ++ (what (says.HoldMin conf.hold_min) ++ (what (says.FibUpdate conf.fib_update)
+      ++ (what (says.MedCompare conf.med_always) ++ (what (says.Socket conf.socket) ++ []))))))
+
+  global_said : {A : Type 0} (what : Statement → Option A) → IsSilent what → what says.QualifyDefault ≡ None → said what (lines_back conf) ≡ globals (listed what)
+  global_said what lists qualify = said_told what conf ∙ all_told (listed what) conf [] [] [] [] [] [] [] [] [] [] [] (no_qualify what conf qualify) (silent what conf lists)
+
   pub as_said : said as_of (lines_back conf) ≡ conf.asn ∷ []
-  as_said = said_told as_of conf ∙ all_told (listed as_of) conf [] [] [] [] [] [] [] [] [] [] [] (no_qualify as_of conf refl) (silent as_of conf (λ _. refl) (λ _ _. refl) (λ _ _. refl) (λ _ _. refl) (λ _ _. refl) (λ _. refl) (λ _ _. refl) (λ _. refl) (λ _. refl) (λ _. refl))
+  as_said = global_said as_of as_silent refl
 
   pub router_id_said : said router_id_of (lines_back conf) ≡ conf.router_id ∷ []
-  router_id_said = said_told router_id_of conf ∙ all_told (listed router_id_of) conf [] [] [] [] [] [] [] [] [] [] [] (no_qualify router_id_of conf refl) (silent router_id_of conf (λ _. refl) (λ _ _. refl) (λ _ _. refl) (λ _ _. refl) (λ _ _. refl) (λ _. refl) (λ _ _. refl) (λ _. refl) (λ _. refl) (λ _. refl))
+  router_id_said = global_said router_id_of router_id_silent refl
 
   pub hold_said : said hold_of (lines_back conf) ≡ conf.hold ∷ []
-  hold_said = said_told hold_of conf ∙ all_told (listed hold_of) conf [] [] [] [] [] [] [] [] [] [] [] (no_qualify hold_of conf refl) (silent hold_of conf (λ _. refl) (λ _ _. refl) (λ _ _. refl) (λ _ _. refl) (λ _ _. refl) (λ _. refl) (λ _ _. refl) (λ _. refl) (λ _. refl) (λ _. refl))
+  hold_said = global_said hold_of hold_silent refl
 
   pub hold_min_said : said hold_min_of (lines_back conf) ≡ conf.hold_min ∷ []
-  hold_min_said = said_told hold_min_of conf ∙ all_told (listed hold_min_of) conf [] [] [] [] [] [] [] [] [] [] [] (no_qualify hold_min_of conf refl) (silent hold_min_of conf (λ _. refl) (λ _ _. refl) (λ _ _. refl) (λ _ _. refl) (λ _ _. refl) (λ _. refl) (λ _ _. refl) (λ _. refl) (λ _. refl) (λ _. refl))
+  hold_min_said = global_said hold_min_of hold_min_silent refl
 
   pub fib_update_said : said fib_update_of (lines_back conf) ≡ conf.fib_update ∷ []
-  fib_update_said = said_told fib_update_of conf ∙ all_told (listed fib_update_of) conf [] [] [] [] [] [] [] [] [] [] [] (no_qualify fib_update_of conf refl) (silent fib_update_of conf (λ _. refl) (λ _ _. refl) (λ _ _. refl) (λ _ _. refl) (λ _ _. refl) (λ _. refl) (λ _ _. refl) (λ _. refl) (λ _. refl) (λ _. refl))
+  fib_update_said = global_said fib_update_of fib_update_silent refl
 
   pub med_always_said : said med_always_of (lines_back conf) ≡ conf.med_always ∷ []
-  med_always_said = said_told med_always_of conf ∙ all_told (listed med_always_of) conf [] [] [] [] [] [] [] [] [] [] [] (no_qualify med_always_of conf refl) (silent med_always_of conf (λ _. refl) (λ _ _. refl) (λ _ _. refl) (λ _ _. refl) (λ _ _. refl) (λ _. refl) (λ _ _. refl) (λ _. refl) (λ _. refl) (λ _. refl))
+  med_always_said = global_said med_always_of med_always_silent refl
 
   pub socket_said : said socket_of (lines_back conf) ≡ conf.socket ∷ []
-  socket_said = said_told socket_of conf ∙ all_told (listed socket_of) conf [] [] [] [] [] [] [] [] [] [] [] (no_qualify socket_of conf refl) (silent socket_of conf (λ _. refl) (λ _ _. refl) (λ _ _. refl) (λ _ _. refl) (λ _ _. refl) (λ _. refl) (λ _ _. refl) (λ _. refl) (λ _. refl) (λ _. refl))
+  socket_said = global_said socket_of socket_silent refl
 
   qualify_tells : (flag : Bool) → Tells (listed qualify_default_of) (qualify_units flag) (if_true flag)
   qualify_tells true = record { from = λ line. refl }
   qualify_tells false = nothing (listed qualify_default_of)
 
   pub qualify_said : said qualify_default_of (lines_back conf) ≡ if_true conf.qualify_default
-  qualify_said = said_told qualify_default_of conf ∙ all_told (listed qualify_default_of) conf (if_true conf.qualify_default) [] [] [] [] [] [] [] [] [] [] (qualify_tells conf.qualify_default) (silent qualify_default_of conf (λ _. refl) (λ _ _. refl) (λ _ _. refl) (λ _ _. refl) (λ _ _. refl) (λ _. refl) (λ _ _. refl) (λ _. refl) (λ _. refl) (λ _. refl)) ∙ append-nil (if_true conf.qualify_default)
+  qualify_said = said_told qualify_default_of conf ∙ all_told (listed qualify_default_of) conf (if_true conf.qualify_default) [] [] [] [] [] [] [] [] [] [] (qualify_tells conf.qualify_default) (silent qualify_default_of conf qualify_silent) ∙ append-nil (if_true conf.qualify_default)
 
   -- ---- lists
 

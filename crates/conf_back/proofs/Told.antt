@@ -1,63 +1,55 @@
 -- What the statements of a canonical text say, each kind for itself.
-use Rattle.std.proofs.Common.{◌≡◌, ◌∙◌, ℕ, ◌+◌, Bool, true, false, List, [], ◌∷◌, ◌++◌, length, map, filter, flat_map, Option, Some, None, refl, ap, sym, append_assoc}
+use Rattle.std.proofs.Common.{◌≡◌, ◌∙◌, ℕ, ◌+◌, Bool, true, false, List, [], ◌∷◌, ◌++◌, map, filter, flat_map, Option, Some, None, refl, ap, sym, append_assoc}
 use Rattle.std.specs.Prelude.{option_to_list}
 use Rattle.std.specs.List.{cons_option}
 use Rattle.net_base.specs.declared.roa.Roa.{Roa}
-use Rattle.net_base.specs.declared.prefix.Prefix.{Prefix}
 use Rattle.conf_tree.specs.declared.conf.Conf.{Conf}
-use Rattle.conf_tree.specs.declared.conf.Listen.{Listen}
-use Rattle.conf_tree.specs.declared.draft.GroupBlock.{GroupBlock}
-use Rattle.conf_tree.specs.declared.draft.NeighbourBlock.{NeighbourBlock}
-use Rattle.conf_tree.specs.declared.draft.RuleBlock.{RuleBlock}
 use Rattle.conf_tree.specs.declared.draft.Statement.{Statement}
 use Rattle.conf_tree.specs.declared.draft.Statement.TheVariants as says
 use Rattle.conf_tree.specs.declared.draft.StatementLine.{StatementLine}
-use Rattle.conf_tree.specs.declared.rule.Item.{Item}
-use Rattle.conf_tree.specs.declared.sets.PrefixRange.{PrefixRange}
 use Rattle.conf_tree.specs.Canonical.{is_alone, group_names}
 use Rattle.conf_tree.specs.Said.{said}
-use Rattle.conf_round.proofs.ReadWhole.{Printed, statements_from}
-use Rattle.conf_round.proofs.ReadConf.{listen_unit, rib_unit, prefix_set_unit, as_set_unit, origin_set_unit, roa_units, network_unit, neighbour_unit, group_unit, rule_unit, qualify_units, printed_of}
+use Rattle.conf_tree.specs.CanonicalDraft.{StatementUnit, statements_from, listen_unit, rib_unit, prefix_set_unit, as_set_unit, origin_set_unit, roa_units, network_unit, neighbour_unit, group_unit, rule_unit, qualify_units, units_of}
 use Rattle.conf_back.proofs.Framed.{lines_back}
 
 module _ {A : Type 0} (what : Statement → List A) where
   -- what the statements from a line on say
-  abbrev pub told : ℕ → List Printed → List A
+  abbrev pub told : ℕ → List StatementUnit → List A
   told line us = flat_map (λ l. what l.statement) (statements_from line us)
 
   -- wherever they stand, the statements say this
-  pub record Tells (us : List Printed) (xs : List A) : Type 0 where
+  pub record Tells (us : List StatementUnit) (xs : List A) : Type 0 where
     pub from : (line : ℕ) → told line us ≡ xs
 
   pub nothing : Tells [] []
   nothing = record { from = λ line. refl }
 
   -- a statement says this, wherever it stands, and those behind it the others
-  pub one_tells : (u : Printed) (us : List Printed) (x xs : List A) → ((line : ℕ) → what (u.1 line) ≡ x) → Tells us xs → Tells (u ∷ us) (x ++ xs)
-  one_tells u us x xs h k = record { from = λ line i. h line i ++ k.from (line + length u.0) i }
+  pub one_tells : (u : StatementUnit) (us : List StatementUnit) (x xs : List A) → ((line : ℕ) → what (u.1 line) ≡ x) → Tells us xs → Tells (u ∷ us) (x ++ xs)
+  one_tells u us x xs h k = record { from = λ line i. h line i ++ k.from (line + u.0) i }
 
-  pub both_tell : (us vs : List Printed) (xs ys : List A) → Tells us xs → Tells vs ys → Tells (us ++ vs) (xs ++ ys)
+  pub both_tell : (us vs : List StatementUnit) (xs ys : List A) → Tells us xs → Tells vs ys → Tells (us ++ vs) (xs ++ ys)
   both_tell us vs xs ys h k = record { from = λ line. both us line ∙ ap (λ (zs : List A). zs ++ ys) (h.from line) }
     where
-      both : (us : List Printed) (line : ℕ) → told line (us ++ vs) ≡ told line us ++ ys
+      both : (us : List StatementUnit) (line : ℕ) → told line (us ++ vs) ≡ told line us ++ ys
       both [] line = k.from line
-      both (u ∷ us) line = ap (λ (zs : List A). what (u.1 line) ++ zs) (both us (line + length u.0)) ∙ sym (append_assoc (what (u.1 line)) (told (line + length u.0) us) ys)
+      both (u ∷ us) line = ap (λ (zs : List A). what (u.1 line) ++ zs) (both us (line + u.0)) ∙ sym (append_assoc (what (u.1 line)) (told (line + u.0) us) ys)
 
   -- statements of a kind that isn't asked for
-  pub none_tell : {B : Type 0} (unit : B → Printed) (xs : List B) → ((x : B) (line : ℕ) → what ((unit x).1 line) ≡ []) → Tells (map unit xs) []
+  pub none_tell : {B : Type 0} (unit : B → StatementUnit) (xs : List B) → ((x : B) (line : ℕ) → what ((unit x).1 line) ≡ []) → Tells (map unit xs) []
   none_tell unit [] h = nothing
   none_tell unit (x ∷ xs) h = one_tells (unit x) (map unit xs) [] [] (h x) (none_tell unit xs h)
 
   -- statements of the kind that is asked for
-  pub each_tells : {B : Type 0} (unit : B → Printed) (f : B → A) (xs : List B) → ((x : B) (line : ℕ) → what ((unit x).1 line) ≡ f x ∷ []) → Tells (map unit xs) (map f xs)
+  pub each_tells : {B : Type 0} (unit : B → StatementUnit) (f : B → A) (xs : List B) → ((x : B) (line : ℕ) → what ((unit x).1 line) ≡ f x ∷ []) → Tells (map unit xs) (map f xs)
   each_tells unit f [] h = nothing
   each_tells unit f (x ∷ xs) h = one_tells (unit x) (map unit xs) (f x ∷ []) (map f xs) (h x) (each_tells unit f xs h)
 
   module _ (conf : Conf) where
-    abbrev pub alone_units : List Printed
+    abbrev pub alone_units : List StatementUnit
     alone_units = map (neighbour_unit conf) (filter is_alone conf.neighbours)
 
-    abbrev pub group_units : List Printed
+    abbrev pub group_units : List StatementUnit
     group_units = map (group_unit conf) (group_names conf.neighbours)
 
     -- what the lists of a configuration say, kind by kind
@@ -74,7 +66,7 @@ module _ {A : Type 0} (what : Statement → List A) where
       pub of_rules : Tells (map (rule_unit conf) conf.rules) rules
 
     -- all that a canonical text says
-    all_tell : (q l b p a o r w x g u : List A) → Tells (qualify_units conf.qualify_default) q → Parts l b p a o r w x g u → Tells (printed_of conf)
+    all_tell : (q l b p a o r w x g u : List A) → Tells (qualify_units conf.qualify_default) q → Parts l b p a o r w x g u → Tells (units_of conf)
         (what (says.As conf.asn) ++ (what (says.RouterId conf.router_id) ++ (what (says.Hold conf.hold) ++ (what (says.HoldMin conf.hold_min) ++ (what (says.FibUpdate conf.fib_update)
         ++ (q ++ (what (says.MedCompare conf.med_always) ++ (what (says.Socket conf.socket) ++ (l ++ (b ++ (p ++ (a ++ (o ++ (r ++ (w ++ (x ++ (g ++ u)))))))))))))))))
     all_tell q l b p a o r w x g u qualifies parts =
@@ -97,7 +89,7 @@ module _ {A : Type 0} (what : Statement → List A) where
         (both_tell group_units (map (rule_unit conf) conf.rules) g u parts.of_groups parts.of_rules))))))))))))))))
 
     pub all_told : (q l b p a o r w x g u : List A) → Tells (qualify_units conf.qualify_default) q → Parts l b p a o r w x g u
-        → told 1 (printed_of conf)
+        → told 1 (units_of conf)
         ≡ what (says.As conf.asn) ++ (what (says.RouterId conf.router_id) ++ (what (says.Hold conf.hold) ++ (what (says.HoldMin conf.hold_min) ++ (what (says.FibUpdate conf.fib_update)
         ++ (q ++ (what (says.MedCompare conf.med_always) ++ (what (says.Socket conf.socket) ++ (l ++ (b ++ (p ++ (a ++ (o ++ (r ++ (w ++ (x ++ (g ++ u))))))))))))))))
     all_told q l b p a o r w x g u qualifies parts = (all_tell q l b p a o r w x g u qualifies parts).from 1
@@ -115,8 +107,26 @@ said_listed {A} what (l ∷ lines) = by (what l.statement) (said_listed what lin
     by None h = h
     by (Some x) h = ap (λ (xs : List A). x ∷ xs) h
 
+-- a statement of which a text may have several, each for itself
+abbrev pub is_listed : Statement → Bool
+is_listed (says.Listen listen) = true
+is_listed (says.Rib name table) = true
+is_listed (says.PrefixSet name entries) = true
+is_listed (says.AsSet name numbers) = true
+is_listed (says.OriginSet name entries) = true
+is_listed (says.RoaSet entries) = true
+is_listed (says.Network prefix set) = true
+is_listed (says.Neighbour neighbour) = true
+is_listed (says.Group group) = true
+is_listed (says.Rule rule) = true
+is_listed _ = false
+
+-- none of those is asked for
+abbrev pub IsSilent : {A : Type 0} → (Statement → Option A) → Type 0
+IsSilent what = (s : Statement) → is_listed s ≡ true → what s ≡ None
+
 module _ {A : Type 0} (what : Statement → Option A) (conf : Conf) where
-  pub said_told : said what (lines_back conf) ≡ told (listed what) 1 (printed_of conf)
+  pub said_told : said what (lines_back conf) ≡ told (listed what) 1 (units_of conf)
   said_told = said_listed what (lines_back conf)
 
   -- the statements of the kinds that aren't asked for
@@ -135,27 +145,23 @@ module _ {A : Type 0} (what : Statement → Option A) (conf : Conf) where
       by (r ∷ roas) = record { from = λ line. ap (λ (o : Option A). option_to_list o ++ []) (h (r ∷ roas)) }
 
 module _ {A : Type 0} (what : Statement → Option A) where
-  pub unasked : {B : Type 0} (unit : B → Printed) (xs : List B) → ((x : B) (line : ℕ) → what ((unit x).1 line) ≡ None) → Tells (listed what) (map unit xs) []
+  pub unasked : {B : Type 0} (unit : B → StatementUnit) (xs : List B) → ((x : B) (line : ℕ) → what ((unit x).1 line) ≡ None) → Tells (listed what) (map unit xs) []
   unasked unit xs h = none_tell (listed what) unit xs (λ x line. ap option_to_list (h x line))
 
-  pub asked : {B : Type 0} (unit : B → Printed) (f : B → A) (xs : List B) → ((x : B) (line : ℕ) → what ((unit x).1 line) ≡ Some (f x)) → Tells (listed what) (map unit xs) (map f xs)
+  pub asked : {B : Type 0} (unit : B → StatementUnit) (f : B → A) (xs : List B) → ((x : B) (line : ℕ) → what ((unit x).1 line) ≡ Some (f x)) → Tells (listed what) (map unit xs) (map f xs)
   asked unit f xs h = each_tells (listed what) unit f xs (λ x line. ap option_to_list (h x line))
 
   -- nothing of the lists is asked for
-  pub silent : (conf : Conf) → ((l : Listen) → what (says.Listen l) ≡ None) → ((name : List ℕ) (table : Option ℕ) → what (says.Rib name table) ≡ None)
-      → ((name : List ℕ) (entries : List PrefixRange) → what (says.PrefixSet name entries) ≡ None) → ((name numbers : List ℕ) → what (says.AsSet name numbers) ≡ None)
-      → ((name : List ℕ) (entries : List Roa) → what (says.OriginSet name entries) ≡ None) → ((roas : List Roa) → what (says.RoaSet roas) ≡ None) → ((p : Prefix) (set : List Item) → what (says.Network p set) ≡ None)
-      → ((n : NeighbourBlock) → what (says.Neighbour n) ≡ None) → ((g : GroupBlock) → what (says.Group g) ≡ None) → ((r : RuleBlock) → what (says.Rule r) ≡ None)
-      → Parts (listed what) conf [] [] [] [] [] [] [] [] [] []
-  silent conf l b p a o r w n g u = record {
-    of_listens = unasked listen_unit conf.listen (λ x line. l _);
-    of_ribs = unasked rib_unit conf.ribs (λ x line. b _ _);
-    of_prefixes = unasked prefix_set_unit conf.prefix_sets (λ x line. p _ _);
-    of_numbers = unasked as_set_unit conf.as_sets (λ x line. a _ _);
-    of_origins = unasked origin_set_unit conf.origin_sets (λ x line. o _ _);
-    of_roas = no_roas what conf r;
-    of_networks = unasked network_unit conf.networks (λ x line. w _ _);
-    of_alone = unasked (neighbour_unit conf) (filter is_alone conf.neighbours) (λ x line. n _);
-    of_groups = unasked (group_unit conf) (group_names conf.neighbours) (λ x line. g _);
-    of_rules = unasked (rule_unit conf) conf.rules (λ x line. u _);
+  pub silent : (conf : Conf) → IsSilent what → Parts (listed what) conf [] [] [] [] [] [] [] [] [] []
+  silent conf lists = record {
+    of_listens = unasked listen_unit conf.listen (λ x line. lists (says.Listen x) refl);
+    of_ribs = unasked rib_unit conf.ribs (λ x line. lists ((rib_unit x).1 line) refl);
+    of_prefixes = unasked prefix_set_unit conf.prefix_sets (λ x line. lists ((prefix_set_unit x).1 line) refl);
+    of_numbers = unasked as_set_unit conf.as_sets (λ x line. lists ((as_set_unit x).1 line) refl);
+    of_origins = unasked origin_set_unit conf.origin_sets (λ x line. lists ((origin_set_unit x).1 line) refl);
+    of_roas = no_roas what conf (λ roas. lists (says.RoaSet roas) refl);
+    of_networks = unasked network_unit conf.networks (λ x line. lists ((network_unit x).1 line) refl);
+    of_alone = unasked (neighbour_unit conf) (filter is_alone conf.neighbours) (λ x line. lists ((neighbour_unit conf x).1 line) refl);
+    of_groups = unasked (group_unit conf) (group_names conf.neighbours) (λ x line. lists ((group_unit conf x).1 line) refl);
+    of_rules = unasked (rule_unit conf) conf.rules (λ x line. lists ((rule_unit conf x).1 line) refl);
   }

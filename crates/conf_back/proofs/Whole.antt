@@ -1,16 +1,13 @@
--- The canonical text of a configuration says that configuration.
-use Rattle.std.proofs.Common.{◌≡◌, ◌∙◌, ℕ, ◌≤◌, length, Option, None, Ok, Err, refl, ap}
+-- The canonical draft of a configuration stands for that configuration.
+use Rattle.std.proofs.Common.{◌≡◌, ◌∙◌, Option, None, Ok, Err, refl, ap}
 use Rattle.std.specs.Option.{option_map_or}
 use Rattle.net_base.specs.declared.conf.ConfFault.{ConfFault}
 use Rattle.conf_tree.specs.declared.conf.Conf.{Conf}
-use Rattle.conf_tree.specs.Faults.{◌>>=◌}
 use Rattle.conf_tree.specs.Flat.{placed, frame_of, neighbours_of, rules_of, flat}
 use Rattle.conf_tree.specs.Checks.{missing_global, double_name, unknown_name, groups_of, first_fault, checked}
-use Rattle.conf_tree.specs.Canonical.{canonical}
-use Rattle.conf_tree.specs.Language.{configuration_within}
-use Rattle.conf_kept.specs.Readable.{IsReadable, IsWithinLimits}
-use Rattle.conf_kept.specs.Settled.{IsSettled}
-use Rattle.conf_round.proofs.ReadConf.{canonical_draft, canonical_draft_back}
+use Rattle.conf_tree.specs.Readable.{IsReadable, IsWithinLimits}
+use Rattle.conf_tree.specs.Settled.{IsSettled}
+use Rattle.conf_tree.specs.CanonicalDraft.{canonical_draft}
 use Rattle.conf_back.proofs.Framed.{lines_back}
 use Rattle.conf_back.proofs.Selected.{as_said, router_id_said}
 use Rattle.conf_back.proofs.FrameBack.{frame_back}
@@ -45,13 +42,7 @@ module _ (conf : Conf) (h : IsReadable conf) (fits : IsWithinLimits conf) (s : I
       (λ i. record (frame_back conf s i) { neighbours = neighbours_of (frame_back conf s i) (placed (lines_back conf)); rules = rules_of (frame_back conf s i) (lines_back conf) })
       ∙ (λ i. record conf { neighbours = neighbours_back conf h fits s i; rules = rules_back conf s fits h.rules i })
 
-  checked_back : checked (canonical_draft conf) ≡ Ok conf
-  unfolding checked
-  checked_back = ap (λ (fault : Option ConfFault). option_map_or Err fault (Ok (flat (lines_back conf)))) no_fault ∙ ap Ok flat_back
-
-  configuration_back : (limit : ℕ) → length (canonical conf) ≤ limit → configuration_within limit (canonical conf) ≡ Ok conf
-  unfolding configuration_within
-  configuration_back limit short = ap (λ draft. draft >>= checked) (canonical_draft_back limit conf h fits short) ∙ checked_back
-
-pub read_back : (limit : ℕ) (conf : Conf) → IsReadable conf → IsWithinLimits conf → IsSettled conf → length (canonical conf) ≤ limit → configuration_within limit (canonical conf) ≡ Ok conf
-read_back limit conf h fits s short = configuration_back conf h fits s limit short
+-- Nothing is at fault in the canonical draft, and it stands for the configuration.
+pub checked_back : (conf : Conf) → IsReadable conf → IsWithinLimits conf → IsSettled conf → checked (canonical_draft conf) ≡ Ok conf
+unfolding checked
+checked_back conf h fits s = ap (λ (fault : Option ConfFault). option_map_or Err fault (Ok (flat (lines_back conf)))) (no_fault conf h fits s) ∙ ap Ok (flat_back conf h fits s)

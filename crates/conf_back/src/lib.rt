@@ -1,6 +1,6 @@
-//! The canonical text of a configuration reads back as that configuration.
+//! Law: the canonical draft of a configuration stands for that configuration.
 #![tactic(auto)]
 
 mod laws;
 
-pub use laws::canonical_texts_read_back;
+pub use laws::canonical_drafts_stand;

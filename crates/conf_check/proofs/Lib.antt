@@ -1,7 +1,7 @@
-pub mod DoubleNames
-pub mod Folds
-pub mod Orders
-pub mod Places
-pub mod Search
-pub mod Sorted
-pub mod Whole
+mod DoubleNames
+mod Folds
+mod Orders
+mod Places
+mod Search
+mod Sorted
+mod Whole

@@ -1,7 +1,7 @@
 //! Names, kernel tables and neighbours that come twice.
 ghost use Rattle.std.specs.Prelude.{◌≡◌, ◌++◌, ◌∷◌, [], IfOk, OnOk, option_copied, option_map, map, bytes_eq, ◌==◌};
 ghost use Rattle.std.specs.Ordering.{eq_by_cmp};
-ghost use Rattle.conf_tree.specs.Checks.{double_name, double_of, double_rib, double_table, fault_at, first_double, first_line, named, rib_name_of, rib_table_of, prefix_set_name_of, as_set_name_of, origin_set_name_of, group_name_of, same_addr};
+ghost use Rattle.conf_tree.specs.Checks.{double_name, double_of, double_rib, double_table, fault_at, first_double, first_line, named, same_addr};
 ghost use Rattle.conf_check.specs.Doubles.{name_of, double_neighbour_in};
 
 use crate::placed::PlacedNeighbour;
@@ -127,59 +127,16 @@ fn add_named(
     Ok(())
 }
 
+/// The name that a statement gives to something of this kind.
 fn name_of(kind: NameKind, statement: &Statement) -> Option<&Text>
     ensures { option_copied result ≡ name_of kind statement.now }
 {
-    match kind {
-        NameKind::Rib => rib_name(statement),
-        NameKind::PrefixSet => prefix_set_name(statement),
-        NameKind::AsSet => as_set_name(statement),
-        NameKind::OriginSet => origin_set_name(statement),
-        NameKind::Group => group_name(statement),
-    }
-}
-
-fn rib_name(statement: &Statement) -> Option<&Text>
-    ensures { option_copied result ≡ rib_name_of statement.now }
-{
-    match statement {
-        Statement::Rib(name, _) => Some(name),
-        _ => None,
-    }
-}
-
-fn prefix_set_name(statement: &Statement) -> Option<&Text>
-    ensures { option_copied result ≡ prefix_set_name_of statement.now }
-{
-    match statement {
-        Statement::PrefixSet(name, _) => Some(name),
-        _ => None,
-    }
-}
-
-fn as_set_name(statement: &Statement) -> Option<&Text>
-    ensures { option_copied result ≡ as_set_name_of statement.now }
-{
-    match statement {
-        Statement::AsSet(name, _) => Some(name),
-        _ => None,
-    }
-}
-
-fn origin_set_name(statement: &Statement) -> Option<&Text>
-    ensures { option_copied result ≡ origin_set_name_of statement.now }
-{
-    match statement {
-        Statement::OriginSet(name, _) => Some(name),
-        _ => None,
-    }
-}
-
-fn group_name(statement: &Statement) -> Option<&Text>
-    ensures { option_copied result ≡ group_name_of statement.now }
-{
-    match statement {
-        Statement::Group(group) => Some(&group.name),
+    match (kind, statement) {
+        (NameKind::Rib, Statement::Rib(name, _)) => Some(name),
+        (NameKind::PrefixSet, Statement::PrefixSet(name, _)) => Some(name),
+        (NameKind::AsSet, Statement::AsSet(name, _)) => Some(name),
+        (NameKind::OriginSet, Statement::OriginSet(name, _)) => Some(name),
+        (NameKind::Group, Statement::Group(group)) => Some(&group.name),
         _ => None,
     }
 }

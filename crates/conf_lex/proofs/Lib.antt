@@ -1,8 +1,7 @@
-pub mod Joining
-pub mod Runs
-pub mod NameBytes
-pub mod Takes
-pub mod FirstLines
-pub mod Replacing
-pub mod ReadingLines
-pub mod Asking
+mod Joining
+mod Runs
+mod NameBytes
+mod FirstLines
+mod Replacing
+mod ReadingLines
+mod Asking

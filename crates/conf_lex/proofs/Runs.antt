@@ -1,30 +1,13 @@
--- How a run of bytes goes on, and where it ends.
-use Rattle.std.proofs.Common.{◌≡◌, ◌∙◌, ℕ, ◌+◌, Bool, true, false, cond, List, [], ◌∷◌, ◌++◌, Option, Some, None, MatchOption, is_some, refl, ap, sym, append_assoc, append-nil}
+-- What a loop takes of a run of bytes.
+use Rattle.std.proofs.Common.{◌≡◌, ◌∙◌, ℕ, ◌+◌, Bool, true, false, List, [], ◌∷◌, ◌++◌, Option, Some, None, MatchOption, is_some, ap, sym, append_assoc, append-nil}
 use Rattle.conf_tree.specs.Joined.{Seen}
-use Rattle.conf_tree.specs.Cuts.{run, behind, bytes_of, end_of, token_of}
+use Rattle.conf_tree.specs.Cuts.{behind, bytes_of, end_of, token_of}
+use Rattle.conf_tree.proofs.Runs.{behind_on, behind_off}
 use Rattle.conf_tree.specs.declared.token.TokenKind.{TokenKind}
 use Rattle.conf_lex.specs.declared.run.Taken.{Taken}
 use Rattle.conf_lex.specs.declared.reader.Seen as own
 use Rattle.conf_lex.specs.Views.{seen_of}
 use Rattle.conf_lex.specs.Parts.{taken_behind, token_with}
-
-pub run_on : (p : List Seen → Bool) (xs : List Seen) (a : Seen) (rest : List Seen) → xs ≡ a ∷ rest → p xs ≡ true → run p xs ≡ a ∷ run p rest
-unfolding run
-run_on p xs a rest e h = ap (run p) e ∙ ap (λ b. cond b (a ∷ run p rest) []) (sym (ap p e) ∙ h)
-
-pub behind_on : (p : List Seen → Bool) (xs : List Seen) (a : Seen) (rest : List Seen) → xs ≡ a ∷ rest → p xs ≡ true → behind p xs ≡ behind p rest
-unfolding behind
-behind_on p xs a rest e h = ap (behind p) e ∙ ap (λ b. cond b (behind p rest) (a ∷ rest)) (sym (ap p e) ∙ h)
-
-pub run_off : (p : List Seen → Bool) (xs : List Seen) → p xs ≡ false → run p xs ≡ []
-unfolding run
-run_off p [] h = refl
-run_off p (a ∷ rest) h = ap (λ b. cond b (a ∷ run p rest) []) h
-
-pub behind_off : (p : List Seen → Bool) (xs : List Seen) → p xs ≡ false → behind p xs ≡ xs
-unfolding behind
-behind_off p [] h = refl
-behind_off p (a ∷ rest) h = ap (λ b. cond b (behind p rest) (a ∷ rest)) h
 
 bytes_first : (byte : Option ℕ) (line place : ℕ) (rest : List Seen) (text : List ℕ) → (text ++ bytes_of (record { byte = byte; line = line; place = place } ∷ [])) ++ bytes_of rest ≡ text ++ bytes_of (record { byte = byte; line = line; place = place } ∷ rest)
 bytes_first None line place rest text = ap (λ (front : List ℕ). front ++ bytes_of rest) (append-nil text)

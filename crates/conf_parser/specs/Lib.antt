@@ -1,3 +1,3 @@
 pub mod Fronts
-pub mod ListState
-pub mod Rooms
+pub mod Reads
+pub mod Words

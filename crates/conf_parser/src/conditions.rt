@@ -1,412 +1,286 @@
 //! The conditions of a rule.
 
-ghost use Rattle.std.specs.Prelude.{◌≡◌, length};
-ghost use Rattle.conf_tree.specs.Gives.{Gives};
-ghost use Rattle.conf_tree.specs.Reading.{word_in};
-ghost use Rattle.conf_tree.specs.RuleReading.{with_prefixes, with_numbers, prefix_list_at, one_prefix_at, prefix_condition_at, prefix_set_condition_at, number_list_at, as_set_condition_at, one_number_at, path_condition_at};
-ghost use Rattle.conf_tree.specs.RuleReading.{origin_set_condition_at, ovs_condition_at, community_condition_at, large_condition_at, max_as_len_condition_at, next_hop_condition_at, route_condition_at, plain_condition_at};
-ghost use Rattle.conf_tree.specs.RuleReading.{condition_words, other_condition_at, path_word_at, known_condition_at, condition_at, ends_conditions, conditions_at};
-ghost use Rattle.conf_parser.specs.ListState.{lists_of};
+ghost use Rattle.std.specs.Prelude.{◌≡◌, IfSome, is_some, length};
+ghost use Rattle.conf_tree.specs.Reading.{behind, word_in};
+ghost use Rattle.conf_tree.specs.RuleReading.{Lists, condition_at, condition_words, conditions_at, ends_conditions, known_condition_at, next_hop_condition_at, number_list_at, ovs_condition_at, path_condition_at, prefix_condition_at, prefix_set_condition_at};
+ghost use Rattle.conf_parser.specs.Reads.{Reads};
+ghost use Rattle.conf_parser.specs.Words.{condition_behind};
 
+use crate::cursor::{Cursor, too_many};
 use crate::entries::{RuleNumbers, RulePrefixes};
-use crate::items::is_left_out_of_rules;
-use crate::lists::{ReadMember, full_list_at};
-use crate::names::{community_at, large_community_at, name_at};
-use crate::reading::{behind, ends_line, fault, mark_is, unexpected, word_in, word_is};
-use crate::values::{address_at, as_number_at, number16_at};
-use conf_tree::{ConditionBlock, ConditionBlockList, PathPart, Token};
+use crate::lists::ReadMember;
+use conf_tree::{ConditionBlock, ConditionBlockList, Lists, PathPart};
 use net_base::{ConfError, ConfKind, Counted, Family, Items, Ovs};
 use std::alloc::Global;
 
 /// The most conditions of a rule.
 const MOST_CONDITIONS: usize = 16;
 
-/// What the lists of a rule leave to the next one.
+/// The greatest length of an AS path that a condition can name.
+const MOST_AS_LEN: u16 = 1023;
+
+/// The words that begin a condition.
 #[derive(Clone, Copy)]
-pub struct RuleLists {
-    /// How many members it may have.
-    pub room: usize,
-    /// Whether a list of prefixes stands already.
-    pub prefixes: bool,
-    /// Whether a list of AS numbers stands already.
-    pub numbers: bool,
+pub(crate) enum ConditionWord {
+    Prefix,
+    PrefixSet,
+    As,
+    SourceAs,
+    TransitAs,
+    PeerAs,
+    OriginSet,
+    Ovs,
+    Community,
+    LargeCommunity,
+    MaxAsLen,
+    NextHop,
+    Inet,
+    Inet6,
 }
 
 /// A condition, and what it leaves to the lists behind it.
-type Condition = (ConditionBlock, RuleLists);
+type Condition = (ConditionBlock, Lists);
 
-/// A list of prefixes in braces. The error at its `{` is `UnexpectedWord` for a second one.
-#[tactic(auto, unfolding(conf_tree::specs::RuleReading::prefix_list_at))]
-fn prefix_list_at(
-    alloc: Global,
-    lists: RuleLists,
-    tokens: &[Token],
-) -> Result<(Condition, &[Token]), ConfError>
-    ensures { Gives (λ x. ((x.0.0, lists_of x.0.1), x.1.now)) result (prefix_list_at (lists_of lists) tokens.now) }
-{
-    if lists.prefixes {
-        return Err(unexpected(tokens));
-    }
-    let (members, rest) = full_list_at(alloc, &RulePrefixes, lists.room, behind(tokens))?;
-    let left = RuleLists {
-        room: lists.room / members.len(),
-        prefixes: true,
-        numbers: lists.numbers,
-    };
-    Ok(((ConditionBlock::Prefixes(members), left), rest))
-}
-
-#[tactic(auto, unfolding(conf_tree::specs::RuleReading::one_prefix_at))]
-fn one_prefix_at(
-    alloc: Global,
-    lists: RuleLists,
-    tokens: &[Token],
-) -> Result<(Condition, &[Token]), ConfError>
-    ensures { Gives (λ x. ((x.0.0, lists_of x.0.1), x.1.now)) result (one_prefix_at (lists_of lists) tokens.now) }
-{
-    let (entry, rest) = RulePrefixes.read(alloc, false, tokens)?;
-    let mut members = Items::new(alloc);
-    members.push(entry)?;
-    Ok(((ConditionBlock::Prefixes(members), lists), rest))
-}
-
-#[tactic(auto, unfolding(conf_tree::specs::RuleReading::prefix_condition_at))]
-fn prefix_condition_at(
-    alloc: Global,
-    lists: RuleLists,
-    tokens: &[Token],
-) -> Result<(Condition, &[Token]), ConfError>
-    ensures { Gives (λ x. ((x.0.0, lists_of x.0.1), x.1.now)) result (prefix_condition_at (lists_of lists) tokens.now) }
-{
-    if mark_is(tokens, b"{") {
-        return prefix_list_at(alloc, lists, tokens);
-    }
-    one_prefix_at(alloc, lists, tokens)
-}
-
-#[tactic(auto, unfolding(conf_tree::specs::RuleReading::prefix_set_condition_at))]
-fn prefix_set_condition_at(
-    alloc: Global,
-    lists: RuleLists,
-    tokens: &[Token],
-) -> Result<(Condition, &[Token]), ConfError>
-    ensures { Gives (λ x. ((x.0.0, lists_of x.0.1), x.1.now)) result (prefix_set_condition_at (lists_of lists) tokens.now) }
-{
-    let (name, rest) = name_at(alloc, tokens)?;
-    if word_is(rest, b"or-longer") {
-        return Ok((
-            (ConditionBlock::PrefixSetOrLonger(name), lists),
-            behind(rest),
-        ));
-    }
-    Ok(((ConditionBlock::PrefixSet(name), lists), rest))
-}
-
-/// A list of AS numbers in braces. The error at its `{` is `UnexpectedWord` for a second one.
-#[tactic(auto, unfolding(conf_tree::specs::RuleReading::number_list_at))]
-fn number_list_at(
-    alloc: Global,
-    lists: RuleLists,
-    part: PathPart,
-    low: u32,
-    tokens: &[Token],
-) -> Result<(Condition, &[Token]), ConfError>
-    ensures { Gives (λ x. ((x.0.0, lists_of x.0.1), x.1.now)) result (number_list_at (lists_of lists) part low tokens.now) }
-{
-    if lists.numbers {
-        return Err(unexpected(tokens));
-    }
-    let (members, rest) = full_list_at(alloc, &RuleNumbers { low }, lists.room, behind(tokens))?;
-    let left = RuleLists {
-        room: lists.room / members.len(),
-        prefixes: lists.prefixes,
-        numbers: true,
-    };
-    Ok(((ConditionBlock::PathNumbers(part, members), left), rest))
-}
-
-#[tactic(auto, unfolding(conf_tree::specs::RuleReading::as_set_condition_at))]
-fn as_set_condition_at(
-    alloc: Global,
-    lists: RuleLists,
-    part: PathPart,
-    tokens: &[Token],
-) -> Result<(Condition, &[Token]), ConfError>
-    ensures { Gives (λ x. ((x.0.0, lists_of x.0.1), x.1.now)) result (as_set_condition_at (lists_of lists) part tokens.now) }
-{
-    let (name, rest) = name_at(alloc, tokens)?;
-    Ok(((ConditionBlock::PathSet(part, name), lists), rest))
-}
-
-#[tactic(auto, unfolding(conf_tree::specs::RuleReading::one_number_at))]
-fn one_number_at(
-    alloc: Global,
-    lists: RuleLists,
-    part: PathPart,
-    low: u32,
-    tokens: &[Token],
-) -> Result<(Condition, &[Token]), ConfError>
-    ensures { Gives (λ x. ((x.0.0, lists_of x.0.1), x.1.now)) result (one_number_at (lists_of lists) part low tokens.now) }
-{
-    let (asn, rest) = as_number_at(tokens, low)?;
-    let mut members = Items::new(alloc);
-    members.push(asn)?;
-    Ok(((ConditionBlock::PathNumbers(part, members), lists), rest))
-}
-
-/// What stands behind `AS` and its like.
-#[tactic(auto, unfolding(conf_tree::specs::RuleReading::path_condition_at))]
-fn path_condition_at(
-    alloc: Global,
-    lists: RuleLists,
-    part: PathPart,
-    low: u32,
-    tokens: &[Token],
-) -> Result<(Condition, &[Token]), ConfError>
-    ensures { Gives (λ x. ((x.0.0, lists_of x.0.1), x.1.now)) result (path_condition_at (lists_of lists) part low tokens.now) }
-{
-    if mark_is(tokens, b"{") {
-        number_list_at(alloc, lists, part, low, tokens)
-    } else if word_is(tokens, b"as-set") {
-        as_set_condition_at(alloc, lists, part, behind(tokens))
-    } else {
-        one_number_at(alloc, lists, part, low, tokens)
-    }
-}
-
-#[tactic(auto, unfolding(conf_tree::specs::RuleReading::origin_set_condition_at))]
-fn origin_set_condition_at(
-    alloc: Global,
-    tokens: &[Token],
-) -> Result<(ConditionBlock, &[Token]), ConfError>
-    ensures { Gives (λ x. (x.0, x.1.now)) result (origin_set_condition_at tokens.now) }
-{
-    let (name, rest) = name_at(alloc, tokens)?;
-    Ok((ConditionBlock::OriginSet(name), rest))
-}
-
-#[tactic(auto, unfolding(conf_tree::specs::RuleReading::ovs_condition_at))]
-fn ovs_condition_at(tokens: &[Token]) -> Result<(ConditionBlock, &[Token]), ConfError>
-    ensures { Gives (λ x. (x.0, x.1.now)) result (ovs_condition_at tokens.now) }
-{
-    if word_is(tokens, b"valid") {
-        Ok((ConditionBlock::Ovs(Ovs::Valid), behind(tokens)))
-    } else if word_is(tokens, b"invalid") {
-        Ok((ConditionBlock::Ovs(Ovs::Invalid), behind(tokens)))
-    } else if word_is(tokens, b"not-found") {
-        Ok((ConditionBlock::Ovs(Ovs::NotFound), behind(tokens)))
-    } else {
-        Err(unexpected(tokens))
-    }
-}
-
-#[tactic(auto, unfolding(conf_tree::specs::RuleReading::community_condition_at))]
-fn community_condition_at(tokens: &[Token]) -> Result<(ConditionBlock, &[Token]), ConfError>
-    ensures { Gives (λ x. (x.0, x.1.now)) result (community_condition_at tokens.now) }
-{
-    let (pattern, rest) = community_at(tokens, true)?;
-    Ok((ConditionBlock::Community(pattern), rest))
-}
-
-#[tactic(auto, unfolding(conf_tree::specs::RuleReading::large_condition_at))]
-fn large_condition_at(tokens: &[Token]) -> Result<(ConditionBlock, &[Token]), ConfError>
-    ensures { Gives (λ x. (x.0, x.1.now)) result (large_condition_at tokens.now) }
-{
-    let (pattern, rest) = large_community_at(tokens, true)?;
-    Ok((ConditionBlock::LargeCommunity(pattern), rest))
-}
-
-#[tactic(auto, unfolding(conf_tree::specs::RuleReading::max_as_len_condition_at))]
-fn max_as_len_condition_at(tokens: &[Token]) -> Result<(ConditionBlock, &[Token]), ConfError>
-    ensures { Gives (λ x. (x.0, x.1.now)) result (max_as_len_condition_at tokens.now) }
-{
-    let (most, rest) = number16_at(tokens, 0, 1023)?;
-    Ok((ConditionBlock::MaxAsLen(most), rest))
-}
-
-#[tactic(auto, unfolding(conf_tree::specs::RuleReading::next_hop_condition_at, conf_tree::specs::Reading::word_in))]
-fn next_hop_condition_at(tokens: &[Token]) -> Result<(ConditionBlock, &[Token]), ConfError>
-    ensures { Gives (λ x. (x.0, x.1.now)) result (next_hop_condition_at tokens.now) }
-{
-    if word_in(tokens, &[b"blackhole", b"reject"]) {
-        return Err(fault(ConfKind::NotInProfile, tokens));
-    }
-    let (address, rest) = address_at(tokens)?;
-    Ok((ConditionBlock::NextHop(address), rest))
-}
-
-/// Conditions on a number, an address or the family.
-#[tactic(auto, unfolding(conf_tree::specs::RuleReading::route_condition_at))]
-fn route_condition_at(tokens: &[Token]) -> Result<(ConditionBlock, &[Token]), ConfError>
-    ensures { Gives (λ x. (x.0, x.1.now)) result (route_condition_at tokens.now) }
-{
-    if word_is(tokens, b"max-as-len") {
-        max_as_len_condition_at(behind(tokens))
-    } else if word_is(tokens, b"nexthop") {
-        next_hop_condition_at(behind(tokens))
-    } else if word_is(tokens, b"inet") {
-        Ok((ConditionBlock::Family(Family::V4), behind(tokens)))
-    } else {
-        Ok((ConditionBlock::Family(Family::V6), behind(tokens)))
-    }
-}
-
-/// Conditions on the origin and on communities, and the others without lists.
-#[tactic(auto, unfolding(conf_tree::specs::RuleReading::plain_condition_at))]
-fn plain_condition_at(
-    alloc: Global,
-    tokens: &[Token],
-) -> Result<(ConditionBlock, &[Token]), ConfError>
-    ensures { Gives (λ x. (x.0, x.1.now)) result (plain_condition_at tokens.now) }
-{
-    if word_is(tokens, b"origin-set") {
-        origin_set_condition_at(alloc, behind(tokens))
-    } else if word_is(tokens, b"ovs") {
-        ovs_condition_at(behind(tokens))
-    } else if word_is(tokens, b"community") {
-        community_condition_at(behind(tokens))
-    } else if word_is(tokens, b"large-community") {
-        large_condition_at(behind(tokens))
-    } else {
-        route_condition_at(tokens)
-    }
-}
-
-#[tactic(auto, unfolding(conf_tree::specs::RuleReading::other_condition_at))]
-fn other_condition_at(
-    alloc: Global,
-    lists: RuleLists,
-    tokens: &[Token],
-) -> Result<(Condition, &[Token]), ConfError>
-    ensures { Gives (λ x. ((x.0.0, lists_of x.0.1), x.1.now)) result (other_condition_at (lists_of lists) tokens.now) }
-{
-    let (condition, rest) = plain_condition_at(alloc, tokens)?;
-    Ok(((condition, lists), rest))
-}
-
-/// Conditions on the path, and those without lists.
-#[tactic(auto, unfolding(conf_tree::specs::RuleReading::path_word_at))]
-fn path_word_at(
-    alloc: Global,
-    lists: RuleLists,
-    tokens: &[Token],
-) -> Result<(Condition, &[Token]), ConfError>
-    ensures { Gives (λ x. ((x.0.0, lists_of x.0.1), x.1.now)) result (path_word_at (lists_of lists) tokens.now) }
-{
-    if word_is(tokens, b"AS") {
-        path_condition_at(alloc, lists, PathPart::Any, 1, behind(tokens))
-    } else if word_is(tokens, b"source-as") {
-        path_condition_at(alloc, lists, PathPart::Source, 0, behind(tokens))
-    } else if word_is(tokens, b"transit-as") {
-        path_condition_at(alloc, lists, PathPart::Transit, 1, behind(tokens))
-    } else if word_is(tokens, b"peer-as") {
-        path_condition_at(alloc, lists, PathPart::Peer, 1, behind(tokens))
-    } else {
-        other_condition_at(alloc, lists, tokens)
-    }
-}
-
-/// Conditions on the prefix, and the others.
-#[tactic(auto, unfolding(conf_tree::specs::RuleReading::known_condition_at))]
-fn known_condition_at(
-    alloc: Global,
-    lists: RuleLists,
-    tokens: &[Token],
-) -> Result<(Condition, &[Token]), ConfError>
-    ensures { Gives (λ x. ((x.0.0, lists_of x.0.1), x.1.now)) result (known_condition_at (lists_of lists) tokens.now) }
-{
-    if word_is(tokens, b"prefix") {
-        prefix_condition_at(alloc, lists, behind(tokens))
-    } else if word_is(tokens, b"prefix-set") {
-        prefix_set_condition_at(alloc, lists, behind(tokens))
-    } else {
-        path_word_at(alloc, lists, tokens)
-    }
-}
-
-#[tactic(auto, unfolding(conf_tree::specs::Reading::word_in))]
-fn begins_condition(tokens: &[Token]) -> bool
-    ensures { result ≡ word_in condition_words tokens.now }
-{
-    word_in(
-        tokens,
-        &[
-            b"prefix",
-            b"prefix-set",
-            b"AS",
-            b"source-as",
-            b"transit-as",
-            b"peer-as",
-            b"origin-set",
-            b"ovs",
-            b"community",
-            b"large-community",
-            b"max-as-len",
-            b"nexthop",
-            b"inet",
-            b"inet6",
-        ],
-    )
-}
-
-/// One condition, unless the rule has no room for it.
-#[tactic(auto, unfolding(conf_tree::specs::RuleReading::condition_at, conf_tree::specs::Reading::unless_full))]
-fn condition_at(
-    alloc: Global,
-    lists: RuleLists,
-    full: bool,
-    tokens: &[Token],
-) -> Result<(Condition, &[Token]), ConfError>
-    ensures { Gives (λ x. ((x.0.0, lists_of x.0.1), x.1.now)) result (condition_at (lists_of lists) full tokens.now) }
-{
-    if is_left_out_of_rules(tokens) {
-        return Err(fault(ConfKind::NotInProfile, tokens));
-    }
-    if !begins_condition(tokens) {
-        return Err(unexpected(tokens));
-    }
-    if full {
-        return Err(fault(ConfKind::TooMany(Counted::Conditions), tokens));
-    }
-    known_condition_at(alloc, lists, tokens)
-}
-
-/// Whether the conditions of a rule end here.
-#[tactic(auto, unfolding(conf_tree::specs::RuleReading::ends_conditions))]
-fn ends_conditions(tokens: &[Token]) -> bool
-    ensures { result ≡ ends_conditions tokens.now }
-{
-    if word_is(tokens, b"set") {
-        return true;
-    }
-    ends_line(tokens)
-}
-
-/// The conditions of a rule, up to `set` or the end of the line.
-#[tactic(auto, using(crate::proofs::ConditionLoop::closes, crate::proofs::ConditionLoop::goes_on, crate::proofs::ConditionLoop::ends, crate::proofs::ConditionLoop::is_done, crate::proofs::ConditionLoop::is_over))]
-pub fn conditions_at(
-    alloc: Global,
-    lists: RuleLists,
-    tokens: &[Token],
-) -> Result<(ConditionBlockList, &[Token]), ConfError>
-    ensures { Gives (λ x. (x.0, x.1.now)) result (conditions_at (lists_of lists) 16 (length tokens.now) tokens.now) }
-{
-    let mut conditions = Items::new(alloc);
-    let mut lists = lists;
-    let mut room = MOST_CONDITIONS;
-    let mut rest = tokens;
-    for _ in 0..tokens.len() {
-        if ends_conditions(rest) {
-            return Ok((conditions, rest));
+impl<'a> Cursor<'a> {
+    /// The conditions of a rule, up to `set` or the end of the line.
+    #[tactic(auto, using(crate::proofs::ConditionLoop::closes, crate::proofs::ConditionLoop::goes_on, crate::proofs::ConditionLoop::ends, crate::proofs::ConditionLoop::is_done, crate::proofs::ConditionLoop::is_over))]
+    pub(crate) fn conditions(
+        &mut self,
+        alloc: Global,
+        lists: Lists,
+    ) -> Result<ConditionBlockList, ConfError>
+        ensures { Reads (λ tokens. conditions_at lists 16 (length tokens) tokens) self.old self.new result }
+    {
+        let mut conditions = Items::new(alloc);
+        let mut lists = lists;
+        let mut room = MOST_CONDITIONS;
+        for _ in 0..self.len() {
+            if self.ends_conditions() {
+                return Ok(conditions);
+            }
+            let (condition, left) = self.condition(alloc, lists, room == 0)?;
+            conditions.push(condition)?;
+            lists = left;
+            room = room.saturating_sub(1);
         }
-        let ((condition, left), more) = condition_at(alloc, lists, room == 0, rest)?;
-        conditions.push(condition)?;
-        lists = left;
-        room = room.saturating_sub(1);
-        rest = more;
+        if self.ends_conditions() {
+            return Ok(conditions);
+        }
+        Err(self.unexpected())
     }
-    if ends_conditions(rest) {
-        return Ok((conditions, rest));
+
+    /// Whether the conditions of a rule end here.
+    #[tactic(auto, unfolding(conf_tree::specs::RuleReading::ends_conditions))]
+    fn ends_conditions(&self) -> bool
+        ensures { result ≡ ends_conditions self.now }
+    {
+        self.word_is(b"set") || self.ends_line()
     }
-    Err(unexpected(rest))
+
+    /// One condition. The error at its word is `TooMany conditions` where there is no room for it.
+    #[tactic(auto, unfolding(conf_tree::specs::RuleReading::condition_at, conf_tree::specs::Reading::unless_full))]
+    fn condition(&mut self, alloc: Global, lists: Lists, full: bool) -> Result<Condition, ConfError>
+        ensures { Reads (condition_at lists full) self.old self.new result }
+    {
+        if self.is_left_out_of_rules() {
+            return Err(self.fault(ConfKind::NotInProfile));
+        }
+        let Some(word) = self.condition_word() else {
+            return Err(self.unexpected());
+        };
+        if full {
+            return Err(too_many(Counted::Conditions, self.line()));
+        }
+        self.advance();
+        self.condition_behind(alloc, lists, word)
+    }
+
+    /// The word of a condition that stands here.
+    #[tactic(auto, unfolding(conf_tree::specs::Reading::word_in, conf_tree::specs::RuleReading::known_condition_at, conf_tree::specs::RuleReading::path_word_at, conf_tree::specs::RuleReading::other_condition_at, conf_tree::specs::RuleReading::plain_condition_at, conf_tree::specs::RuleReading::route_condition_at))]
+    fn condition_word(&self) -> Option<ConditionWord>
+        ensures begins { is_some result ≡ word_in condition_words self.now }
+        ensures goes_on { IfSome result (λ w. (lists : Lists) → known_condition_at lists self.now ≡ condition_behind lists w (behind self.now)) }
+    {
+        if self.word_is(b"prefix") {
+            Some(ConditionWord::Prefix)
+        } else if self.word_is(b"prefix-set") {
+            Some(ConditionWord::PrefixSet)
+        } else if self.word_is(b"AS") {
+            Some(ConditionWord::As)
+        } else if self.word_is(b"source-as") {
+            Some(ConditionWord::SourceAs)
+        } else if self.word_is(b"transit-as") {
+            Some(ConditionWord::TransitAs)
+        } else if self.word_is(b"peer-as") {
+            Some(ConditionWord::PeerAs)
+        } else if self.word_is(b"origin-set") {
+            Some(ConditionWord::OriginSet)
+        } else if self.word_is(b"ovs") {
+            Some(ConditionWord::Ovs)
+        } else if self.word_is(b"community") {
+            Some(ConditionWord::Community)
+        } else if self.word_is(b"large-community") {
+            Some(ConditionWord::LargeCommunity)
+        } else if self.word_is(b"max-as-len") {
+            Some(ConditionWord::MaxAsLen)
+        } else if self.word_is(b"nexthop") {
+            Some(ConditionWord::NextHop)
+        } else if self.word_is(b"inet") {
+            Some(ConditionWord::Inet)
+        } else if self.word_is(b"inet6") {
+            Some(ConditionWord::Inet6)
+        } else {
+            None
+        }
+    }
+
+    /// What stands behind the word of a condition.
+    #[tactic(auto, unfolding(conf_tree::specs::RuleReading::origin_set_condition_at, conf_tree::specs::RuleReading::community_condition_at, conf_tree::specs::RuleReading::large_condition_at, conf_tree::specs::RuleReading::max_as_len_condition_at))]
+    fn condition_behind(
+        &mut self,
+        alloc: Global,
+        lists: Lists,
+        word: ConditionWord,
+    ) -> Result<Condition, ConfError>
+        ensures { Reads (condition_behind lists word) self.old self.new result }
+    {
+        match word {
+            ConditionWord::Prefix => self.prefix_condition(alloc, lists),
+            ConditionWord::PrefixSet => self.prefix_set_condition(alloc, lists),
+            ConditionWord::As => self.path_condition(alloc, lists, PathPart::Any, 1),
+            ConditionWord::SourceAs => self.path_condition(alloc, lists, PathPart::Source, 0),
+            ConditionWord::TransitAs => self.path_condition(alloc, lists, PathPart::Transit, 1),
+            ConditionWord::PeerAs => self.path_condition(alloc, lists, PathPart::Peer, 1),
+            ConditionWord::OriginSet => Ok((ConditionBlock::OriginSet(self.name(alloc)?), lists)),
+            ConditionWord::Ovs => Ok((self.ovs_condition()?, lists)),
+            ConditionWord::Community => {
+                Ok((ConditionBlock::Community(self.community(true)?), lists))
+            }
+            ConditionWord::LargeCommunity => {
+                Ok((
+                    ConditionBlock::LargeCommunity(self.large_community(true)?),
+                    lists,
+                ))
+            }
+            ConditionWord::MaxAsLen => {
+                Ok((
+                    ConditionBlock::MaxAsLen(self.number16(0, MOST_AS_LEN)?),
+                    lists,
+                ))
+            }
+            ConditionWord::NextHop => Ok((self.next_hop_condition()?, lists)),
+            ConditionWord::Inet => Ok((ConditionBlock::Family(Family::V4), lists)),
+            ConditionWord::Inet6 => Ok((ConditionBlock::Family(Family::V6), lists)),
+        }
+    }
+
+    /// What stands behind `prefix`: one with its lengths, or a list of them in braces. The error at the `{` of a
+    /// second list is `UnexpectedWord`.
+    #[tactic(auto, unfolding(conf_tree::specs::RuleReading::prefix_condition_at, conf_tree::specs::RuleReading::prefix_list_at, conf_tree::specs::RuleReading::one_prefix_at))]
+    fn prefix_condition(&mut self, alloc: Global, lists: Lists) -> Result<Condition, ConfError>
+        ensures { Reads (prefix_condition_at lists) self.old self.new result }
+    {
+        if !self.mark_is(b"{") {
+            let mut members = Items::new(alloc);
+            members.push(RulePrefixes.read(alloc, false, self)?)?;
+            return Ok((ConditionBlock::Prefixes(members), lists));
+        }
+        if lists.prefixes {
+            return Err(self.unexpected());
+        }
+        self.advance();
+        let members = self.full_list(alloc, &RulePrefixes, lists.room)?;
+        let left = Lists {
+            room: lists.room / members.len(),
+            prefixes: true,
+            numbers: lists.numbers,
+        };
+        Ok((ConditionBlock::Prefixes(members), left))
+    }
+
+    /// What stands behind `prefix-set`.
+    #[tactic(auto, unfolding(conf_tree::specs::RuleReading::prefix_set_condition_at))]
+    fn prefix_set_condition(&mut self, alloc: Global, lists: Lists) -> Result<Condition, ConfError>
+        ensures { Reads (prefix_set_condition_at lists) self.old self.new result }
+    {
+        let name = self.name(alloc)?;
+        if self.takes(b"or-longer") {
+            return Ok((ConditionBlock::PrefixSetOrLonger(name), lists));
+        }
+        Ok((ConditionBlock::PrefixSet(name), lists))
+    }
+
+    /// What stands behind `AS` and its like: a number from low on, a list of them in braces, or an as-set. The
+    /// error at the `{` of a second list is `UnexpectedWord`.
+    #[tactic(auto, unfolding(conf_tree::specs::RuleReading::path_condition_at, conf_tree::specs::RuleReading::as_set_condition_at, conf_tree::specs::RuleReading::one_number_at))]
+    fn path_condition(
+        &mut self,
+        alloc: Global,
+        lists: Lists,
+        part: PathPart,
+        low: u32,
+    ) -> Result<Condition, ConfError>
+        ensures { Reads (path_condition_at lists part low) self.old self.new result }
+    {
+        if self.mark_is(b"{") {
+            return self.number_list(alloc, lists, part, low);
+        }
+        if self.takes(b"as-set") {
+            return Ok((ConditionBlock::PathSet(part, self.name(alloc)?), lists));
+        }
+        let mut members = Items::new(alloc);
+        members.push(self.as_number(low)?)?;
+        Ok((ConditionBlock::PathNumbers(part, members), lists))
+    }
+
+    /// A list of AS numbers, from its `{` on.
+    #[tactic(auto, unfolding(conf_tree::specs::RuleReading::number_list_at))]
+    fn number_list(
+        &mut self,
+        alloc: Global,
+        lists: Lists,
+        part: PathPart,
+        low: u32,
+    ) -> Result<Condition, ConfError>
+        ensures { Reads (number_list_at lists part low) self.old self.new result }
+    {
+        if lists.numbers {
+            return Err(self.unexpected());
+        }
+        self.advance();
+        let members = self.full_list(alloc, &RuleNumbers { low }, lists.room)?;
+        let left = Lists {
+            room: lists.room / members.len(),
+            prefixes: lists.prefixes,
+            numbers: true,
+        };
+        Ok((ConditionBlock::PathNumbers(part, members), left))
+    }
+
+    /// What stands behind `ovs`.
+    #[tactic(auto, unfolding(conf_tree::specs::RuleReading::ovs_condition_at))]
+    fn ovs_condition(&mut self) -> Result<ConditionBlock, ConfError>
+        ensures { Reads ovs_condition_at self.old self.new result }
+    {
+        if self.takes(b"valid") {
+            Ok(ConditionBlock::Ovs(Ovs::Valid))
+        } else if self.takes(b"invalid") {
+            Ok(ConditionBlock::Ovs(Ovs::Invalid))
+        } else if self.takes(b"not-found") {
+            Ok(ConditionBlock::Ovs(Ovs::NotFound))
+        } else {
+            Err(self.unexpected())
+        }
+    }
+
+    /// What stands behind `nexthop`.
+    #[tactic(auto, unfolding(conf_tree::specs::RuleReading::next_hop_condition_at, conf_tree::specs::Reading::word_in))]
+    fn next_hop_condition(&mut self) -> Result<ConditionBlock, ConfError>
+        ensures { Reads next_hop_condition_at self.old self.new result }
+    {
+        if self.word_in(&[b"blackhole", b"reject"]) {
+            return Err(self.fault(ConfKind::NotInProfile));
+        }
+        Ok(ConditionBlock::NextHop(self.address()?))
+    }
 }

@@ -1,52 +1,51 @@
 //! Prefixes and AS numbers as members of lists.
 
 ghost use Rattle.std.specs.Prelude.{◌≡◌};
-ghost use Rattle.conf_tree.specs.Gives.{Gives};
-ghost use Rattle.conf_tree.specs.RuleReading.{ranged_at, counted_number_at, rule_prefix_at, rule_number_at};
+ghost use Rattle.conf_tree.specs.RuleReading.{counted_number_at, ranged_at, rule_number_at, rule_prefix_at};
+ghost use Rattle.conf_parser.specs.Reads.{Reads};
 
+use crate::cursor::{Cursor, too_many};
 use crate::lists::ReadMember;
-use crate::reading::fault;
-use crate::values::{as_number_at, lengths_at, prefix_at};
-use conf_tree::{PrefixRange, Token};
-use net_base::{ConfError, ConfKind, Counted};
+use conf_tree::PrefixRange;
+use net_base::{ConfError, Counted};
 use std::alloc::Global;
 
-/// A prefix with its lengths, unless there is no room for it.
-#[tactic(auto, unfolding(conf_tree::specs::RuleReading::ranged_at, conf_tree::specs::Reading::unless_full))]
-pub fn ranged_at(
-    full: bool,
-    counted: Counted,
-    tokens: &[Token],
-) -> Result<(PrefixRange, &[Token]), ConfError>
-    ensures { Gives (λ x. (x.0, x.1.now)) result (ranged_at full counted tokens.now) }
-{
-    let (prefix, rest) = prefix_at(tokens)?;
-    if full {
-        return Err(fault(ConfKind::TooMany(counted), tokens));
+impl<'a> Cursor<'a> {
+    /// A prefix with its lengths. The error at the prefix is `TooMany` where there is no room for it.
+    #[tactic(auto, unfolding(conf_tree::specs::RuleReading::ranged_at, conf_tree::specs::Reading::unless_full))]
+    pub(crate) fn ranged(&mut self, full: bool, counted: Counted) -> Result<PrefixRange, ConfError>
+        ensures { Reads (ranged_at full counted) self.old self.new result }
+    {
+        let line = self.line();
+        let prefix = self.prefix()?;
+        if full {
+            return Err(too_many(counted, line));
+        }
+        self.lengths(prefix)
     }
-    lengths_at(prefix, rest)
-}
 
-/// An AS number from low on, unless there is no room for it.
-#[tactic(auto, unfolding(conf_tree::specs::RuleReading::counted_number_at, conf_tree::specs::Reading::unless_full))]
-pub fn counted_number_at(
-    low: u32,
-    full: bool,
-    counted: Counted,
-    tokens: &[Token],
-) -> Result<(u32, &[Token]), ConfError>
-    ensures { Gives (λ x. (x.0, x.1.now)) result (counted_number_at low full counted tokens.now) }
-{
-    let (asn, rest) = as_number_at(tokens, low)?;
-    if full {
-        return Err(fault(ConfKind::TooMany(counted), tokens));
+    /// An AS number from low on. The error at it is `TooMany` where there is no room for it.
+    #[tactic(auto, unfolding(conf_tree::specs::RuleReading::counted_number_at, conf_tree::specs::Reading::unless_full))]
+    pub(crate) fn counted_number(
+        &mut self,
+        low: u32,
+        full: bool,
+        counted: Counted,
+    ) -> Result<u32, ConfError>
+        ensures { Reads (counted_number_at low full counted) self.old self.new result }
+    {
+        let line = self.line();
+        let asn = self.as_number(low)?;
+        if full {
+            return Err(too_many(counted, line));
+        }
+        Ok(asn)
     }
-    Ok((asn, rest))
 }
 
 /// Reads the prefixes of a rule.
 #[derive(Drop)]
-pub struct RulePrefixes;
+pub(crate) struct RulePrefixes;
 
 impl ReadMember for RulePrefixes {
     type Value = PrefixRange;
@@ -58,16 +57,16 @@ impl ReadMember for RulePrefixes {
         &self,
         _alloc: Global,
         full: bool,
-        tokens: &'a [Token],
-    ) -> Result<(PrefixRange, &'a [Token]), ConfError> {
-        ranged_at(full, Counted::Rules, tokens)
+        tokens: &mut Cursor<'a>,
+    ) -> Result<PrefixRange, ConfError> {
+        tokens.ranged(full, Counted::Rules)
     }
 }
 
 /// Reads the AS numbers of a rule, from `low` on.
 #[derive(Drop)]
-pub struct RuleNumbers {
-    pub low: u32,
+pub(crate) struct RuleNumbers {
+    pub(crate) low: u32,
 }
 
 impl ReadMember for RuleNumbers {
@@ -80,8 +79,8 @@ impl ReadMember for RuleNumbers {
         &self,
         _alloc: Global,
         full: bool,
-        tokens: &'a [Token],
-    ) -> Result<(u32, &'a [Token]), ConfError> {
-        counted_number_at(self.low, full, Counted::Rules, tokens)
+        tokens: &mut Cursor<'a>,
+    ) -> Result<u32, ConfError> {
+        tokens.counted_number(self.low, full, Counted::Rules)
     }
 }

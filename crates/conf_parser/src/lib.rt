@@ -2,12 +2,12 @@
 #![tactic(auto)]
 
 mod conditions;
+mod cursor;
 mod entries;
 mod items;
 mod lists;
 mod names;
 mod neighbours;
-mod reading;
 mod room;
 mod rules;
 mod sets;

@@ -1,85 +1,14 @@
 //! Filter rules.
 
-ghost use Rattle.std.specs.Prelude.{◌≡◌, ◌^◌, ◌-◌, min, Some, None, true, false};
-ghost use Rattle.conf_tree.specs.declared.rule.Direction.TheVariants as ways;
-ghost use Rattle.conf_tree.specs.Gives.{Gives};
-ghost use Rattle.conf_tree.specs.Reading.{word_in};
-ghost use Rattle.conf_tree.specs.RuleReading.{group_peer_at, as_peer_at, address_peer_at, one_peer_at, known_peer_at, peer_words, begins_peer, peer_at};
-ghost use Rattle.conf_tree.specs.RuleReading.{place_of, rule_body_at, rib_rule_at, directed_rule_at, rule_at, factor, factors, flat_rules_of};
+ghost use Rattle.std.specs.Prelude.{◌≡◌, min};
+ghost use Rattle.conf_tree.specs.RuleReading.{begins_peer, directed_rule_at, factor, factors, flat_rules_of, known_peer_at, peer_at, place_of, rule_at, rule_body_at};
+ghost use Rattle.conf_parser.specs.Reads.{Reads};
 
-use crate::conditions::{RuleLists, conditions_at};
-use crate::items::optional_set_at;
-use crate::lists::{ReadMember, one_or_list_at};
-use crate::names::{group_name_at, name_at};
-use crate::reading::{behind, fault, keyword_at, unexpected, word_in, word_is};
-use crate::values::{address_at, address_of, as_number_at};
-use conf_tree::{Action, ConditionBlock, Direction, Peer, RuleBlock, SetPlace, Text, Token};
-use net_base::{ConfError, ConfKind, Counted};
+use crate::cursor::{Cursor, too_many};
+use crate::lists::ReadMember;
+use conf_tree::{Action, ConditionBlock, Direction, Lists, Peer, RuleBlock, SetPlace, Text};
+use net_base::{ConfError, Counted};
 use std::alloc::Global;
-
-#[tactic(auto, unfolding(conf_tree::specs::RuleReading::group_peer_at))]
-fn group_peer_at(alloc: Global, tokens: &[Token]) -> Result<(Peer, &[Token]), ConfError>
-    ensures { Gives (λ x. (x.0, x.1.now)) result (group_peer_at tokens.now) }
-{
-    let (name, rest) = group_name_at(alloc, tokens)?;
-    Ok((Peer::Group(name), rest))
-}
-
-#[tactic(auto, unfolding(conf_tree::specs::RuleReading::as_peer_at))]
-fn as_peer_at(tokens: &[Token]) -> Result<(Peer, &[Token]), ConfError>
-    ensures { Gives (λ x. (x.0, x.1.now)) result (as_peer_at tokens.now) }
-{
-    let (asn, rest) = as_number_at(tokens, 1)?;
-    Ok((Peer::As(asn), rest))
-}
-
-#[tactic(auto, unfolding(conf_tree::specs::RuleReading::address_peer_at))]
-fn address_peer_at(tokens: &[Token]) -> Result<(Peer, &[Token]), ConfError>
-    ensures { Gives (λ x. (x.0, x.1.now)) result (address_peer_at tokens.now) }
-{
-    let (address, rest) = address_at(tokens)?;
-    Ok((Peer::Address(address), rest))
-}
-
-/// A peer that isn't one of the words for many.
-#[tactic(auto, unfolding(conf_tree::specs::RuleReading::one_peer_at))]
-fn one_peer_at(alloc: Global, tokens: &[Token]) -> Result<(Peer, &[Token]), ConfError>
-    ensures { Gives (λ x. (x.0, x.1.now)) result (one_peer_at tokens.now) }
-{
-    if word_is(tokens, b"group") {
-        group_peer_at(alloc, behind(tokens))
-    } else if word_is(tokens, b"AS") {
-        as_peer_at(behind(tokens))
-    } else {
-        address_peer_at(tokens)
-    }
-}
-
-#[tactic(auto, unfolding(conf_tree::specs::RuleReading::known_peer_at))]
-fn known_peer_at(alloc: Global, tokens: &[Token]) -> Result<(Peer, &[Token]), ConfError>
-    ensures { Gives (λ x. (x.0, x.1.now)) result (known_peer_at tokens.now) }
-{
-    if word_is(tokens, b"any") {
-        Ok((Peer::Any, behind(tokens)))
-    } else if word_is(tokens, b"ebgp") {
-        Ok((Peer::Ebgp, behind(tokens)))
-    } else if word_is(tokens, b"ibgp") {
-        Ok((Peer::Ibgp, behind(tokens)))
-    } else {
-        one_peer_at(alloc, tokens)
-    }
-}
-
-/// Whether the first token can begin a peer.
-#[tactic(auto, unfolding(conf_tree::specs::RuleReading::begins_peer, conf_tree::specs::Reading::word_in))]
-fn begins_peer(tokens: &[Token]) -> bool
-    ensures { result ≡ begins_peer tokens.now }
-{
-    if word_in(tokens, &[b"any", b"ebgp", b"ibgp", b"group", b"AS"]) {
-        return true;
-    }
-    address_of(tokens).is_some()
-}
 
 /// Reads the peers of a rule.
 #[derive(Drop)]
@@ -95,15 +24,120 @@ impl ReadMember for Peers {
         &self,
         alloc: Global,
         full: bool,
-        tokens: &'a [Token],
-    ) -> Result<(Peer, &'a [Token]), ConfError> {
-        if !begins_peer(tokens) {
-            return Err(unexpected(tokens));
+        tokens: &mut Cursor<'a>,
+    ) -> Result<Peer, ConfError> {
+        if !tokens.begins_peer() {
+            return Err(tokens.unexpected());
         }
         if full {
-            return Err(fault(ConfKind::TooMany(Counted::Rules), tokens));
+            return Err(too_many(Counted::Rules, tokens.line()));
         }
-        known_peer_at(alloc, tokens)
+        tokens.peer(alloc)
+    }
+}
+
+impl<'a> Cursor<'a> {
+    /// A rule, behind its action, which may stand for so many flat ones.
+    #[tactic(auto, unfolding(conf_tree::specs::RuleReading::rule_at))]
+    pub(crate) fn rule(
+        &mut self,
+        alloc: Global,
+        room: usize,
+        action: Action,
+    ) -> Result<RuleBlock, ConfError>
+        ensures { Reads (rule_at room action) self.old self.new result }
+    {
+        if self.takes(b"quick") {
+            return self.directed_rule(alloc, room, action, true);
+        }
+        self.directed_rule(alloc, room, action, false)
+    }
+
+    /// What stands behind `quick`, or behind the action where that is missing.
+    #[tactic(auto, unfolding(conf_tree::specs::RuleReading::directed_rule_at, conf_tree::specs::RuleReading::rib_rule_at))]
+    fn directed_rule(
+        &mut self,
+        alloc: Global,
+        room: usize,
+        action: Action,
+        quick: bool,
+    ) -> Result<RuleBlock, ConfError>
+        ensures { Reads (directed_rule_at room action quick) self.old self.new result }
+    {
+        if self.takes(b"rib") {
+            let name = self.name(alloc)?;
+            self.keyword(b"from")?;
+            self.rule_body(alloc, room, action, quick, Some(name), Direction::From)
+        } else if self.takes(b"from") {
+            self.rule_body(alloc, room, action, quick, None, Direction::From)
+        } else if self.takes(b"to") {
+            self.rule_body(alloc, room, action, quick, None, Direction::To)
+        } else {
+            Err(self.unexpected())
+        }
+    }
+
+    /// What stands behind `from` or `to`, where the rule may stand for so many flat ones.
+    #[tactic(auto, unfolding(conf_tree::specs::RuleReading::rule_body_at))]
+    fn rule_body(
+        &mut self,
+        alloc: Global,
+        room: usize,
+        action: Action,
+        quick: bool,
+        rib: Option<Text>,
+        direction: Direction,
+    ) -> Result<RuleBlock, ConfError>
+        ensures { Reads (rule_body_at room action quick rib direction) self.old self.new result }
+    {
+        let peers = self.one_or_list(alloc, &Peers, room)?;
+        let lists = Lists {
+            room: room / peers.len(),
+            prefixes: false,
+            numbers: false,
+        };
+        let conditions = self.conditions(alloc, lists)?;
+        let set = self.optional_set(alloc, place_of(direction))?;
+        Ok(RuleBlock {
+            action,
+            quick,
+            rib,
+            direction,
+            peers,
+            conditions,
+            set,
+        })
+    }
+
+    /// Whether the next token can begin a peer.
+    #[tactic(auto, unfolding(conf_tree::specs::RuleReading::begins_peer, conf_tree::specs::Reading::word_in))]
+    fn begins_peer(&self) -> bool
+        ensures { result ≡ begins_peer self.now }
+    {
+        if self.word_in(&[b"any", b"ebgp", b"ibgp", b"group", b"AS"]) {
+            return true;
+        }
+        self.address_of().is_some()
+    }
+
+    /// A peer.
+    #[tactic(auto, unfolding(conf_tree::specs::RuleReading::known_peer_at, conf_tree::specs::RuleReading::one_peer_at, conf_tree::specs::RuleReading::group_peer_at, conf_tree::specs::RuleReading::as_peer_at, conf_tree::specs::RuleReading::address_peer_at))]
+    fn peer(&mut self, alloc: Global) -> Result<Peer, ConfError>
+        ensures { Reads known_peer_at self.old self.new result }
+    {
+        if self.takes(b"any") {
+            Ok(Peer::Any)
+        } else if self.takes(b"ebgp") {
+            Ok(Peer::Ebgp)
+        } else if self.takes(b"ibgp") {
+            Ok(Peer::Ibgp)
+        } else if self.takes(b"group") {
+            Ok(Peer::Group(self.group_name(alloc)?))
+        } else if self.takes(b"AS") {
+            Ok(Peer::As(self.as_number(1)?))
+        } else {
+            Ok(Peer::Address(self.address()?))
+        }
     }
 }
 
@@ -117,111 +151,14 @@ fn place_of(direction: Direction) -> SetPlace
     }
 }
 
-/// What stands behind `from` or `to`, where the rule may stand for so many flat ones.
-#[tactic(auto, unfolding(conf_tree::specs::RuleReading::rule_body_at))]
-fn rule_body_at(
-    alloc: Global,
-    room: usize,
-    action: Action,
-    quick: bool,
-    rib: Option<Text>,
-    direction: Direction,
-    tokens: &[Token],
-) -> Result<(RuleBlock, &[Token]), ConfError>
-    ensures { Gives (λ x. (x.0, x.1.now)) result (rule_body_at room action quick rib direction tokens.now) }
+/// How many flat rules a rule stands for, or the greatest usize where it is more.
+#[tactic(auto, using(crate::proofs::Products::stops))]
+pub(crate) fn flat_rules_of(rule: &RuleBlock) -> usize
+    ensures { result ≡ min (flat_rules_of rule.now) 18446744073709551615 }
 {
-    let (peers, rest) = one_or_list_at(alloc, &Peers, room, tokens)?;
-    let lists = RuleLists {
-        room: room / peers.len(),
-        prefixes: false,
-        numbers: false,
-    };
-    let (conditions, rest) = conditions_at(alloc, lists, rest)?;
-    let (set, rest) = optional_set_at(alloc, place_of(direction), rest)?;
-    let rule = RuleBlock {
-        action,
-        quick,
-        rib,
-        direction,
-        peers,
-        conditions,
-        set,
-    };
-    Ok((rule, rest))
-}
-
-/// A rule of one RIB, behind `rib`.
-#[tactic(auto, unfolding(conf_tree::specs::RuleReading::rib_rule_at))]
-fn rib_rule_at(
-    alloc: Global,
-    room: usize,
-    action: Action,
-    quick: bool,
-    tokens: &[Token],
-) -> Result<(RuleBlock, &[Token]), ConfError>
-    ensures { Gives (λ x. (x.0, x.1.now)) result (rib_rule_at room action quick tokens.now) }
-{
-    let (name, rest) = name_at(alloc, tokens)?;
-    let rest = keyword_at(rest, b"from")?;
-    rule_body_at(
-        alloc,
-        room,
-        action,
-        quick,
-        Some(name),
-        Direction::From,
-        rest,
-    )
-}
-
-/// What stands behind `quick`, or behind the action where that is missing.
-#[tactic(auto, unfolding(conf_tree::specs::RuleReading::directed_rule_at))]
-fn directed_rule_at(
-    alloc: Global,
-    room: usize,
-    action: Action,
-    quick: bool,
-    tokens: &[Token],
-) -> Result<(RuleBlock, &[Token]), ConfError>
-    ensures { Gives (λ x. (x.0, x.1.now)) result (directed_rule_at room action quick tokens.now) }
-{
-    let rest = behind(tokens);
-    if word_is(tokens, b"rib") {
-        rib_rule_at(alloc, room, action, quick, rest)
-    } else if word_is(tokens, b"from") {
-        rule_body_at(alloc, room, action, quick, None, Direction::From, rest)
-    } else if word_is(tokens, b"to") {
-        rule_body_at(alloc, room, action, quick, None, Direction::To, rest)
-    } else {
-        Err(unexpected(tokens))
-    }
-}
-
-/// A rule, behind its action, which may stand for so many flat ones.
-#[tactic(auto, unfolding(conf_tree::specs::RuleReading::rule_at))]
-pub fn rule_at(
-    alloc: Global,
-    room: usize,
-    action: Action,
-    tokens: &[Token],
-) -> Result<(RuleBlock, &[Token]), ConfError>
-    ensures { Gives (λ x. (x.0, x.1.now)) result (rule_at room action tokens.now) }
-{
-    if word_is(tokens, b"quick") {
-        return directed_rule_at(alloc, room, action, true, behind(tokens));
-    }
-    directed_rule_at(alloc, room, action, false, tokens)
-}
-
-/// How many members a condition has.
-fn factor(condition: &ConditionBlock) -> usize
-    ensures { result ≡ factor condition.now }
-{
-    match condition {
-        ConditionBlock::Prefixes(entries) => entries.len(),
-        ConditionBlock::PathNumbers(_, numbers) => numbers.len(),
-        _ => 1,
-    }
+    rule.peers
+        .len()
+        .saturating_mul(factors(rule.conditions.as_slice()))
 }
 
 /// The product of the members of some conditions, or the greatest usize where it is more.
@@ -235,12 +172,13 @@ fn factors(conditions: &[ConditionBlock]) -> usize
     }
 }
 
-/// How many flat rules a rule stands for, or the greatest usize where it is more.
-#[tactic(auto, using(crate::proofs::Products::stops))]
-pub fn flat_rules_of(rule: &RuleBlock) -> usize
-    ensures { result ≡ min (flat_rules_of rule.now) 18446744073709551615 }
+/// How many members a condition has.
+fn factor(condition: &ConditionBlock) -> usize
+    ensures { result ≡ factor condition.now }
 {
-    rule.peers
-        .len()
-        .saturating_mul(factors(rule.conditions.as_slice()))
+    match condition {
+        ConditionBlock::Prefixes(entries) => entries.len(),
+        ConditionBlock::PathNumbers(_, numbers) => numbers.len(),
+        _ => 1,
+    }
 }

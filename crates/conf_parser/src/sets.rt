@@ -1,17 +1,12 @@
 //! Prefix-sets, as-sets, origin-sets and the roa-set.
 
 ghost use Rattle.std.specs.Prelude.{◌≡◌};
-ghost use Rattle.conf_tree.specs.Gives.{Gives};
-ghost use Rattle.conf_tree.specs.StatementReading.{entry_at, prefix_entry_at, number_entry_at, optional_maxlen_at, source_at, authorization_at, counted_authorization_at, roa_entry_at, named_brace_at, prefix_set_at, as_set_at, origin_set_at, roa_set_at};
-ghost use Rattle.conf_parser.specs.Rooms.{room_of};
+ghost use Rattle.conf_tree.specs.StatementReading.{as_set_at, authorization_at, named_brace_at, number_entry_at, optional_maxlen_at, origin_set_at, prefix_entry_at, prefix_set_at, roa_entry_at, roa_set_at};
+ghost use Rattle.conf_parser.specs.Reads.{Reads};
 
-use crate::entries::{counted_number_at, ranged_at};
-use crate::lists::{ReadMember, list_at};
-use crate::names::name_at;
-use crate::reading::{behind, fault, keyword_at, mark_at, word_is};
-use crate::room::RoomLeft;
-use crate::values::{as_number_at, number8_at, prefix_at};
-use conf_tree::{PrefixRange, Statement, Text, Token};
+use crate::cursor::{Cursor, too_many};
+use crate::lists::ReadMember;
+use conf_tree::{PrefixRange, Room, Statement, Text};
 use net_base::{ConfError, ConfKind, Counted, Prefix, Roa};
 use std::alloc::Global;
 
@@ -29,12 +24,12 @@ impl ReadMember for PrefixEntries {
         &self,
         _alloc: Global,
         full: bool,
-        tokens: &'a [Token],
-    ) -> Result<(PrefixRange, &'a [Token]), ConfError> {
-        if word_is(tokens, b"expires") {
-            return Err(fault(ConfKind::NotInProfile, tokens));
+        tokens: &mut Cursor<'a>,
+    ) -> Result<PrefixRange, ConfError> {
+        if tokens.word_is(b"expires") {
+            return Err(tokens.fault(ConfKind::NotInProfile));
         }
-        ranged_at(full, Counted::Entries, tokens)
+        tokens.ranged(full, Counted::Entries)
     }
 }
 
@@ -52,63 +47,13 @@ impl ReadMember for NumberEntries {
         &self,
         _alloc: Global,
         full: bool,
-        tokens: &'a [Token],
-    ) -> Result<(u32, &'a [Token]), ConfError> {
-        if word_is(tokens, b"expires") {
-            return Err(fault(ConfKind::NotInProfile, tokens));
+        tokens: &mut Cursor<'a>,
+    ) -> Result<u32, ConfError> {
+        if tokens.word_is(b"expires") {
+            return Err(tokens.fault(ConfKind::NotInProfile));
         }
-        counted_number_at(1, full, Counted::Entries, tokens)
+        tokens.counted_number(1, full, Counted::Entries)
     }
-}
-
-/// The greatest length of an authorization, which is the prefix's own where none is said.
-#[tactic(auto, unfolding(conf_tree::specs::StatementReading::optional_maxlen_at))]
-fn optional_maxlen_at(prefix: Prefix, tokens: &[Token]) -> Result<(u8, &[Token]), ConfError>
-    ensures { Gives (λ x. (x.0, x.1.now)) result (optional_maxlen_at prefix tokens.now) }
-{
-    if !word_is(tokens, b"maxlen") {
-        return Ok((prefix.len, tokens));
-    }
-    number8_at(behind(tokens), prefix.len, prefix.family.width())
-}
-
-/// The AS of an authorization, which may be 0.
-#[tactic(auto, unfolding(conf_tree::specs::StatementReading::source_at, conf_tree::specs::StatementReading::entry_at))]
-fn source_at(tokens: &[Token]) -> Result<(u32, &[Token]), ConfError>
-    ensures { Gives (λ x. (x.0, x.1.now)) result (source_at tokens.now) }
-{
-    if word_is(tokens, b"expires") {
-        return Err(fault(ConfKind::NotInProfile, tokens));
-    }
-    let rest = keyword_at(tokens, b"source-as")?;
-    as_number_at(rest, 0)
-}
-
-/// What stands behind the prefix of an authorization.
-#[tactic(auto, unfolding(conf_tree::specs::StatementReading::authorization_at))]
-fn authorization_at(prefix: Prefix, tokens: &[Token]) -> Result<(Roa, &[Token]), ConfError>
-    ensures { Gives (λ x. (x.0, x.1.now)) result (authorization_at prefix tokens.now) }
-{
-    let (maxlen, rest) = optional_maxlen_at(prefix, tokens)?;
-    let (source, rest) = source_at(rest)?;
-    let roa = Roa {
-        prefix,
-        maxlen,
-        source,
-    };
-    Ok((roa, rest))
-}
-
-/// An authorization, unless there is no room for it.
-#[tactic(auto, unfolding(conf_tree::specs::StatementReading::counted_authorization_at, conf_tree::specs::Reading::unless_full))]
-fn counted_authorization_at(full: bool, tokens: &[Token]) -> Result<(Roa, &[Token]), ConfError>
-    ensures { Gives (λ x. (x.0, x.1.now)) result (counted_authorization_at full tokens.now) }
-{
-    let (prefix, rest) = prefix_at(tokens)?;
-    if full {
-        return Err(fault(ConfKind::TooMany(Counted::Entries), tokens));
-    }
-    authorization_at(prefix, rest)
 }
 
 /// Reads the entries of origin-sets and of the roa-set.
@@ -120,82 +65,102 @@ impl ReadMember for Authorizations {
 
     ghost member = { λ reader. roa_entry_at };
 
-    #[tactic(auto, unfolding(conf_tree::specs::StatementReading::roa_entry_at, conf_tree::specs::StatementReading::entry_at))]
+    #[tactic(auto, unfolding(conf_tree::specs::StatementReading::roa_entry_at, conf_tree::specs::StatementReading::entry_at, conf_tree::specs::StatementReading::counted_authorization_at, conf_tree::specs::Reading::unless_full))]
     fn read<'a>(
         &self,
         _alloc: Global,
         full: bool,
-        tokens: &'a [Token],
-    ) -> Result<(Roa, &'a [Token]), ConfError> {
-        if word_is(tokens, b"expires") {
-            return Err(fault(ConfKind::NotInProfile, tokens));
+        tokens: &mut Cursor<'a>,
+    ) -> Result<Roa, ConfError> {
+        if tokens.word_is(b"expires") {
+            return Err(tokens.fault(ConfKind::NotInProfile));
         }
-        counted_authorization_at(full, tokens)
+        let line = tokens.line();
+        let prefix = tokens.prefix()?;
+        if full {
+            return Err(too_many(Counted::Entries, line));
+        }
+        tokens.authorization(prefix)
     }
 }
 
-/// A name and `{`.
-#[tactic(auto, unfolding(conf_tree::specs::StatementReading::named_brace_at))]
-fn named_brace_at(alloc: Global, tokens: &[Token]) -> Result<(Text, &[Token]), ConfError>
-    ensures { Gives (λ x. (x.0, x.1.now)) result (named_brace_at tokens.now) }
-{
-    let (name, rest) = name_at(alloc, tokens)?;
-    let rest = mark_at(rest, b"{")?;
-    Ok((name, rest))
-}
+impl<'a> Cursor<'a> {
+    /// What stands behind `prefix-set`.
+    #[tactic(auto, unfolding(conf_tree::specs::StatementReading::prefix_set_at))]
+    pub(crate) fn prefix_set(&mut self, alloc: Global, room: Room) -> Result<Statement, ConfError>
+        ensures { Reads (prefix_set_at room) self.old self.new result }
+    {
+        let name = self.named_brace(alloc)?;
+        let entries = self.list(alloc, &PrefixEntries, room.entries)?;
+        Ok(Statement::PrefixSet(name, entries))
+    }
 
-/// What stands behind `prefix-set`.
-#[tactic(auto, unfolding(conf_tree::specs::StatementReading::prefix_set_at))]
-pub fn prefix_set_at(
-    alloc: Global,
-    room: RoomLeft,
-    tokens: &[Token],
-) -> Result<(Statement, &[Token]), ConfError>
-    ensures { Gives (λ x. (x.0, x.1.now)) result (prefix_set_at (room_of room) tokens.now) }
-{
-    let (name, rest) = named_brace_at(alloc, tokens)?;
-    let (entries, rest) = list_at(alloc, &PrefixEntries, room.entries, rest)?;
-    Ok((Statement::PrefixSet(name, entries), rest))
-}
+    /// What stands behind `as-set`.
+    #[tactic(auto, unfolding(conf_tree::specs::StatementReading::as_set_at))]
+    pub(crate) fn as_set(&mut self, alloc: Global, room: Room) -> Result<Statement, ConfError>
+        ensures { Reads (as_set_at room) self.old self.new result }
+    {
+        let name = self.named_brace(alloc)?;
+        let numbers = self.list(alloc, &NumberEntries, room.entries)?;
+        Ok(Statement::AsSet(name, numbers))
+    }
 
-/// What stands behind `as-set`.
-#[tactic(auto, unfolding(conf_tree::specs::StatementReading::as_set_at))]
-pub fn as_set_at(
-    alloc: Global,
-    room: RoomLeft,
-    tokens: &[Token],
-) -> Result<(Statement, &[Token]), ConfError>
-    ensures { Gives (λ x. (x.0, x.1.now)) result (as_set_at (room_of room) tokens.now) }
-{
-    let (name, rest) = named_brace_at(alloc, tokens)?;
-    let (numbers, rest) = list_at(alloc, &NumberEntries, room.entries, rest)?;
-    Ok((Statement::AsSet(name, numbers), rest))
-}
+    /// What stands behind `origin-set`.
+    #[tactic(auto, unfolding(conf_tree::specs::StatementReading::origin_set_at))]
+    pub(crate) fn origin_set(&mut self, alloc: Global, room: Room) -> Result<Statement, ConfError>
+        ensures { Reads (origin_set_at room) self.old self.new result }
+    {
+        let name = self.named_brace(alloc)?;
+        let entries = self.list(alloc, &Authorizations, room.entries)?;
+        Ok(Statement::OriginSet(name, entries))
+    }
 
-/// What stands behind `origin-set`.
-#[tactic(auto, unfolding(conf_tree::specs::StatementReading::origin_set_at))]
-pub fn origin_set_at(
-    alloc: Global,
-    room: RoomLeft,
-    tokens: &[Token],
-) -> Result<(Statement, &[Token]), ConfError>
-    ensures { Gives (λ x. (x.0, x.1.now)) result (origin_set_at (room_of room) tokens.now) }
-{
-    let (name, rest) = named_brace_at(alloc, tokens)?;
-    let (entries, rest) = list_at(alloc, &Authorizations, room.entries, rest)?;
-    Ok((Statement::OriginSet(name, entries), rest))
-}
+    /// What stands behind `roa-set`.
+    #[tactic(auto, unfolding(conf_tree::specs::StatementReading::roa_set_at))]
+    pub(crate) fn roa_set(&mut self, alloc: Global, room: Room) -> Result<Statement, ConfError>
+        ensures { Reads (roa_set_at room) self.old self.new result }
+    {
+        self.open_brace()?;
+        let entries = self.list(alloc, &Authorizations, room.entries)?;
+        Ok(Statement::RoaSet(entries))
+    }
 
-/// What stands behind `roa-set`.
-#[tactic(auto, unfolding(conf_tree::specs::StatementReading::roa_set_at))]
-pub fn roa_set_at(
-    alloc: Global,
-    room: RoomLeft,
-    tokens: &[Token],
-) -> Result<(Statement, &[Token]), ConfError>
-    ensures { Gives (λ x. (x.0, x.1.now)) result (roa_set_at (room_of room) tokens.now) }
-{
-    let rest = mark_at(tokens, b"{")?;
-    let (entries, rest) = list_at(alloc, &Authorizations, room.entries, rest)?;
-    Ok((Statement::RoaSet(entries), rest))
+    /// A name and `{`.
+    #[tactic(auto, unfolding(conf_tree::specs::StatementReading::named_brace_at))]
+    fn named_brace(&mut self, alloc: Global) -> Result<Text, ConfError>
+        ensures { Reads named_brace_at self.old self.new result }
+    {
+        let name = self.name(alloc)?;
+        self.open_brace()?;
+        Ok(name)
+    }
+
+    /// What stands behind the prefix of an authorization: its greatest length and its AS, which may be 0.
+    #[tactic(auto, unfolding(conf_tree::specs::StatementReading::authorization_at, conf_tree::specs::StatementReading::source_at, conf_tree::specs::StatementReading::entry_at))]
+    fn authorization(&mut self, prefix: Prefix) -> Result<Roa, ConfError>
+        ensures { Reads (authorization_at prefix) self.old self.new result }
+    {
+        let maxlen = self.optional_maxlen(prefix)?;
+        if self.word_is(b"expires") {
+            return Err(self.fault(ConfKind::NotInProfile));
+        }
+        self.keyword(b"source-as")?;
+        let source = self.as_number(0)?;
+        Ok(Roa {
+            prefix,
+            maxlen,
+            source,
+        })
+    }
+
+    /// The greatest length of an authorization, which is the prefix's own where none is said.
+    #[tactic(auto, unfolding(conf_tree::specs::StatementReading::optional_maxlen_at))]
+    fn optional_maxlen(&mut self, prefix: Prefix) -> Result<u8, ConfError>
+        ensures { Reads (optional_maxlen_at prefix) self.old self.new result }
+    {
+        if !self.takes(b"maxlen") {
+            return Ok(prefix.len);
+        }
+        self.number8(prefix.len, prefix.family.width())
+    }
 }

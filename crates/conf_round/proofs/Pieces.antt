@@ -8,8 +8,8 @@ use Rattle.conf_tree.specs.declared.token.TokenKind.TheVariants.{Word, Quoted, M
 use Rattle.conf_tree.specs.Joined.{Seen, joined_from, is_lf, line_behind}
 use Rattle.conf_tree.specs.Kinds.{is_line_end}
 use Rattle.conf_tree.specs.Cuts.{is_blank, in_word, first_cut, first_line, in_front_of}
-use Rattle.conf_lex.proofs.Joining.{byte_stays}
-use Rattle.conf_lex.proofs.FirstLines.{line_on, line_ended}
+use Rattle.conf_tree.proofs.Joining.{byte_stays}
+use Rattle.conf_tree.proofs.FirstLines.{line_on, line_ended}
 use Rattle.conf_round.proofs.Plain.{IsPlain, ArePlain}
 use Rattle.conf_round.proofs.Spread.{at, spread, AreNoLf, joined_word, joined_one, joined_end, joined_inside}
 use Rattle.conf_round.proofs.Cutting.{rules_at, AreBlank, AreInside, IsMark, cut_word, cut_mark, cut_end, cut_quoted}

@@ -5,7 +5,7 @@ use Rattle.std.specs.List.{All, list_all}
 use Rattle.std.proofs.lemmas.Bool.Decides.{nat_tests}
 use Rattle.conf_tree.specs.Joined.{is_lf}
 use Rattle.conf_tree.specs.Cuts.{is_blank, is_hash, is_quote, is_mark, is_compare, is_printable}
-use Rattle.conf_kept.proofs.Both.{and_first, and_second}
+use Rattle.conf_tree.proofs.Both.{and_first, and_second}
 
 -- printable, and neither a mark, nor a quote, a comment sign, a backslash or a dollar
 pub record IsPlain (b : ℕ) : Type 0 where

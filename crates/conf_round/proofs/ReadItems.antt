@@ -18,7 +18,7 @@ use Rattle.conf_tree.specs.Reading.{text_of, word_is, word_in, unless_full}
 use Rattle.conf_tree.specs.Values.{word_passes, in_range}
 use Rattle.conf_tree.specs.ItemReading.{is_signed, changed_by, change_at, local_pref_at, med_at, weight_at, prepend_self_at, prepend_neighbor_at, origin_at, deleted_community_at, added_community_at, community_item_at, deleted_large_at, added_large_at, large_item_at, is_to, is_network, hop_address_at, next_hop_item_at, naming_item_at, route_item_at, known_item_at, item_at}
 use Rattle.conf_tree.specs.Canonical.{change_text, pattern_text, large_pattern_text, community_text}
-use Rattle.conf_kept.specs.Readable.{IsWithin, IsChange, IsPattern, IsLargePattern, IsItem}
+use Rattle.conf_tree.specs.Readable.{IsWithin, IsChange, IsPattern, IsLargePattern, IsItem}
 use Rattle.conf_round.proofs.Spread.{and_false}
 use Rattle.conf_round.proofs.Pieces.{line_tokens}
 use Rattle.conf_round.proofs.ItemLines.{item_pieces}

@@ -10,7 +10,7 @@ use Rattle.conf_tree.specs.declared.rule.Item.TheVariants as items
 use Rattle.conf_tree.specs.Kinds.{is_word, is_mark}
 use Rattle.conf_tree.specs.Reading.{Member, is_separator, after_separators, text_of, mark_is, behind, members_at, list_at, full_list_at}
 use Rattle.conf_tree.specs.ItemReading.{item_at}
-use Rattle.conf_kept.specs.Readable.{Each, IsItem}
+use Rattle.conf_tree.specs.Readable.{Each, IsItem}
 use Rattle.conf_round.proofs.Pieces.{Piece, piece_token, line_tokens, finish, line_finish}
 use Rattle.conf_round.proofs.Lines.{comma}
 use Rattle.conf_round.proofs.ItemLines.{item_pieces, more_pieces}

@@ -14,7 +14,6 @@ use Rattle.conf_tree.specs.declared.token.TokenKind.TheVariants.{Word, Quoted, M
 use Rattle.conf_tree.specs.declared.conf.Conf.{Conf}
 use Rattle.conf_tree.specs.declared.neighbour.Neighbour.{Neighbour}
 use Rattle.conf_tree.specs.declared.draft.NeighbourOption.{NeighbourOption}
-use Rattle.conf_tree.specs.declared.draft.OptionLine.{OptionLine}
 use Rattle.conf_tree.specs.declared.draft.NeighbourBlock.{NeighbourBlock}
 use Rattle.conf_tree.specs.declared.draft.Statement.TheVariants as says
 use Rattle.conf_tree.specs.Kinds.{is_word, is_line_end}
@@ -22,7 +21,8 @@ use Rattle.conf_tree.specs.Reading.{line_of, text_of, word_is, mark_is, mark_at,
 use Rattle.conf_tree.specs.Values.{prefix_of_word}
 use Rattle.conf_tree.specs.NeighbourReading.{after_line_ends, separated_at, option_line_at, options_at, neighbour_body_at, neighbour_at, neighbour_line_at, group_members_at, group_at}
 use Rattle.conf_tree.specs.StatementReading.{Room, neighbour_statement_at, group_statement_at, peer_word_at, set_word_at, engine_word_at, statement_at}
-use Rattle.conf_kept.specs.Readable.{Each, IsGroupName, IsNeighbour}
+use Rattle.conf_tree.specs.Readable.{Each, IsGroupName, IsNeighbour}
+use Rattle.conf_tree.specs.CanonicalDraft.{options_of, numbered, block_of}
 use Rattle.conf_round.proofs.Pieces.{Piece, line_tokens, start, finish, line_finish, end_token}
 use Rattle.conf_round.proofs.Texts.{lines_tokens}
 use Rattle.conf_round.proofs.Lines.{first, word, quote, opening, shut}
@@ -32,7 +32,7 @@ use Rattle.conf_round.proofs.ReadValues.{token, no_place}
 use Rattle.conf_round.proofs.ReadTexts.{address_back, group_name_back}
 use Rattle.conf_round.proofs.ReadLists.{starts_word, no_mark}
 use Rattle.conf_round.proofs.ReadSets.{after_block, after_ends, line_then, block_tokens}
-use Rattle.conf_round.proofs.ReadOptions.{OptionBack, ReadAs, options_of, options_read}
+use Rattle.conf_round.proofs.ReadOptions.{OptionBack, ReadAs, options_read}
 
 -- ---- line ends
 
@@ -70,11 +70,6 @@ end_line line at rest = refl
 
 abbrev pub same_line : List Piece → List Piece
 same_line l = l
-
--- options with the lines on which they stand, one behind the other
-abbrev pub numbered : ℕ → List NeighbourOption → List OptionLine
-numbered line [] = []
-numbered line (o ∷ os) = record { line = line; option = o } ∷ numbered (line + 1) os
 
 ends_is : (t : Token) (ts : List Token) → ends_line (t ∷ ts) ≡ is_line_end t.kind
 unfolding ends_line
@@ -134,10 +129,6 @@ no_prefix a = sym (no_slash (addr_text a) (sym (not_at (addr_text a) (addr_lacks
 abbrev pub neighbour_head : Neighbour → List Piece
 neighbour_head n = first (codes "neighbor") ∷ word (addr_text n.address) ∷ opening ∷ []
 
--- what is read of a neighbour whose first line is this
-abbrev pub block_of : Conf → ℕ → Neighbour → NeighbourBlock
-block_of conf line n = record { line = line; address = n.address; options = numbered (line + 1) (options_of conf n) }
-
 abbrev pub after_neighbour : Conf → ℕ → ℕ → Neighbour → List (List Piece) → List Token
 after_neighbour conf line at n more = after_block same_line (line + 1) (line_finish at (neighbour_head n) + 1) (option_lines conf n) more
 
@@ -196,10 +187,10 @@ next_line conf line n = shut_line (line + 1) (option_lines conf n) + 1
 abbrev pub next_at : Conf → ℕ → Neighbour → ℕ
 next_at conf at n = shut_at (line_finish at (neighbour_head n) + 1) (option_lines conf n) + 1
 
--- the neighbours of a group, of which the first begins on this line
-abbrev pub blocks_of : Conf → ℕ → List Neighbour → List NeighbourBlock
-blocks_of conf line [] = []
-blocks_of conf line (n ∷ ns) = block_of conf line n ∷ blocks_of conf (next_line conf line n) ns
+-- what is read of the neighbours of a group, of which the first begins on this line
+abbrev pub blocks_read : Conf → ℕ → List Neighbour → List NeighbourBlock
+blocks_read conf line [] = []
+blocks_read conf line (n ∷ ns) = block_of conf line n ∷ blocks_read conf (next_line conf line n) ns
 
 abbrev pub after_members : Conf → ℕ → ℕ → List Neighbour → List (List Piece) → List Token
 after_members conf line at [] more = end_token line (line_finish at (shut ∷ [])) ∷ lines_tokens (line + 1) (line_finish at (shut ∷ []) + 1) more
@@ -228,7 +219,7 @@ neighbour_first conf n line at more =
 
 members_back : (conf : Conf) (n room line at line' at' : ℕ) (ns : List Neighbour) (more : List (List Piece)) → Each (IsNeighbour conf) ns → length ns ≤ room
     → length (end_token line' at' ∷ lines_tokens line at (flat_map (neighbour_lines conf) ns ++ ((shut ∷ []) ∷ more))) ≤ n
-    → group_members_at room n (end_token line' at' ∷ lines_tokens line at (flat_map (neighbour_lines conf) ns ++ ((shut ∷ []) ∷ more))) ≡ Ok (([], blocks_of conf line ns), after_members conf line at ns more)
+    → group_members_at room n (end_token line' at' ∷ lines_tokens line at (flat_map (neighbour_lines conf) ns ++ ((shut ∷ []) ∷ more))) ≡ Ok (([], blocks_read conf line ns), after_members conf line at ns more)
 unfolding group_members_at
 members_back conf zero room line at line' at' ns more h fits fuel = absurd (omega arith)
 members_back conf (suc n) room line at line' at' [] more h fits fuel =
@@ -258,7 +249,7 @@ group_head name = first (codes "group") ∷ quote name ∷ opening ∷ []
 
 group_here : (conf : Conf) (room : Room) (name : List ℕ) (ns : List Neighbour) (line at line' at' : ℕ) (more : List (List Piece)) → IsGroupName name → Each (IsNeighbour conf) ns → length ns ≤ room.neighbours → eqb room.groups 0 ≡ false
     → statement_at room (line_tokens line at (group_head name) ++ (end_token line (line_finish at (group_head name)) ∷ lines_tokens line' at' (flat_map (neighbour_lines conf) ns ++ ((shut ∷ []) ∷ more))))
-    ≡ Ok (says.Group (record { name = name; options = []; neighbours = blocks_of conf line' ns }), after_members conf line' at' ns more)
+    ≡ Ok (says.Group (record { name = name; options = []; neighbours = blocks_read conf line' ns }), after_members conf line' at' ns more)
 unfolding statement_at engine_word_at set_word_at peer_word_at word_is text_of unless_full group_statement_at group_at mark_at mark_is
 group_here conf room name ns line at line' at' more g h fits free =
     let rest : List Token = end_token line (line_finish at (group_head name)) ∷ lines_tokens line' at' (flat_map (neighbour_lines conf) ns ++ ((shut ∷ []) ∷ more)) in
@@ -268,6 +259,6 @@ group_here conf room name ns line at line' at' more g h fits free =
 
 pub group_back : (conf : Conf) (room : Room) (name : List ℕ) (ns : List Neighbour) (line at : ℕ) (more : List (List Piece)) → IsGroupName name → Each (IsNeighbour conf) ns → length ns ≤ room.neighbours → eqb room.groups 0 ≡ false
     → statement_at room (lines_tokens line at (block_lines (group_head name) (flat_map (neighbour_lines conf) ns) ++ more))
-    ≡ Ok (says.Group (record { name = name; options = []; neighbours = blocks_of conf (line + 1) ns }), after_members conf (line + 1) (line_finish at (group_head name) + 1) ns more)
+    ≡ Ok (says.Group (record { name = name; options = []; neighbours = blocks_read conf (line + 1) ns }), after_members conf (line + 1) (line_finish at (group_head name) + 1) ns more)
 group_back conf room name ns line at more g h fits free =
     ap (statement_at room) (block_tokens line at (group_head name) (flat_map (neighbour_lines conf) ns) more) ∙ group_here conf room name ns line at (line + 1) (line_finish at (group_head name) + 1) more g h fits free

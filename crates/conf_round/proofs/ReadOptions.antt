@@ -13,7 +13,8 @@ use Rattle.conf_tree.specs.declared.rule.Item.{Item}
 use Rattle.conf_tree.specs.Reading.{text_of, word_is, ends_line}
 use Rattle.conf_tree.specs.NeighbourReading.{remote_as_at, local_address_at, description_at, port_at, multihop_at, hold_min_option_at, hold_option_at, any_hold_option_at, family_at, announce_refresh_at, announce_as_4byte_at, capability_at, announce_at, max_prefix_at, rib_option_at, set_option_at, routing_option_at, session_option_at, connection_option_at, option_at}
 use Rattle.conf_tree.specs.Canonical.{rib_name, unicast, yes_no}
-use Rattle.conf_kept.specs.Readable.{IfThere, IsSet, IsAs, IsHold, IsWithin, IsQuotedText, IsName, IsNeighbour}
+use Rattle.conf_tree.specs.Readable.{IfThere, IsSet, IsAs, IsHold, IsWithin, IsQuotedText, IsName, IsNeighbour}
+use Rattle.conf_tree.specs.CanonicalDraft.{given_options, set_options, items_options, session_options, link_options_of, open_options_of, route_options_of, options_of}
 use Rattle.conf_round.proofs.Pieces.{Piece, line_tokens}
 use Rattle.conf_round.proofs.Lines.{tabbed, word}
 use Rattle.conf_round.proofs.ItemLines.{set_pieces}
@@ -118,18 +119,6 @@ set_back item set h line at rest e = rw (set_list_back places.Neighbour line _ _
 
 -- ---- the options of a neighbour
 
-abbrev pub given_options : {A : Type 0} → (A → NeighbourOption) → Option A → List NeighbourOption
-given_options make None = []
-given_options make (Some value) = make value ∷ []
-
-abbrev pub set_options : Bool → NeighbourOption → List NeighbourOption
-set_options true o = o ∷ []
-set_options false o = []
-
-abbrev pub items_options : List Item → List NeighbourOption
-items_options [] = []
-items_options (item ∷ set) = options.Set (item ∷ set) ∷ []
-
 given_read : {A : Type 0} (Is : A → Type 0) (line : A → List Piece) (make : A → NeighbourOption) → ((x : A) → Is x → OptionBack (line x) (make x)) → ((x : A) → StartsLine (line x)) → (value : Option A) → IfThere Is value
     → ReadAs (given_lines line value) (given_options make value)
 given_read Is line make back starts None h = tt
@@ -147,25 +136,7 @@ any_there : {A : Type 0} (value : Option A) → IfThere (λ _. Unit {0}) value
 any_there None = tt
 any_there (Some value) = tt
 
-abbrev pub way_of : Neighbour → List NeighbourOption
-way_of n = set_options n.passive options.Passive ++ (set_options n.down options.Down ++ given_options options.Multihop n.multihop)
-
-abbrev pub link_of : Neighbour → List NeighbourOption
-link_of n = options.RemoteAs n.remote_as ∷ (given_options options.LocalAddress n.local_address ++ (given_options options.Description n.description ++ (options.Port n.port ∷ way_of n)))
-
-abbrev pub open_of : Neighbour → List NeighbourOption
-open_of n =
-    options.Hold n.hold ∷ options.HoldMin n.hold_min ∷ options.Announce V4 n.announce_v4 ∷ options.Announce V6 n.announce_v6 ∷ options.AnnounceRefresh n.announce_refresh
-    ∷ options.AnnounceAs4Byte n.announce_as_4byte ∷ []
-
-abbrev pub route_of : Conf → Neighbour → List NeighbourOption
-route_of conf n = given_options options.MaxPrefix n.max_prefix ++ (options.Rib (rib_name conf n.rib) ∷ items_options n.set)
-
--- what a neighbour's block says
-abbrev pub options_of : Conf → Neighbour → List NeighbourOption
-options_of conf n = link_of n ++ (open_of n ++ route_of conf n)
-
-way_read : (conf : Conf) (n : Neighbour) → IsNeighbour conf n → ReadAs (way_lines n) (way_of n)
+way_read : (conf : Conf) (n : Neighbour) → IsNeighbour conf n → ReadAs (way_lines n) (session_options n)
 way_read conf n h =
     let hops : List (List Piece) = given_lines multihop_pieces n.multihop in
     read_both (set_lines n.passive (tabbed (codes "passive") ∷ [])) (set_lines n.down (tabbed (codes "down") ∷ []) ++ hops) (set_options n.passive options.Passive) (set_options n.down options.Down ++ given_options options.Multihop n.multihop)
@@ -174,10 +145,10 @@ way_read conf n h =
     (set_read n.down (tabbed (codes "down") ∷ []) options.Down down_back (λ line at rest. refl))
     (given_read (IsWithin 1 255) multihop_pieces options.Multihop multihop_back (λ x line at rest. refl) n.multihop h.multihop))
 
-link_read : (conf : Conf) (n : Neighbour) → IsNeighbour conf n → ReadAs (link_lines n) (link_of n)
+link_read : (conf : Conf) (n : Neighbour) → IsNeighbour conf n → ReadAs (link_lines n) (link_options_of n)
 link_read conf n h =
     let port : List (List Piece) = port_pieces n.port ∷ way_lines n in
-    let ports : List NeighbourOption = options.Port n.port ∷ way_of n in
+    let ports : List NeighbourOption = options.Port n.port ∷ session_options n in
     let good : ReadAs port ports = (port_back n.port h.port, λ line at rest. refl, way_read conf n h) in (
       remote_as_back n.remote_as h.remote_as,
       λ line at rest. refl,
@@ -186,7 +157,7 @@ link_read conf n h =
           (read_both (given_lines descr_pieces n.description) port (given_options options.Description n.description) ports (given_read IsQuotedText descr_pieces options.Description descr_back (λ x line at rest. refl) n.description h.description) good),
     )
 
-open_read : (conf : Conf) (n : Neighbour) → IsNeighbour conf n → ReadAs (open_lines n) (open_of n)
+open_read : (conf : Conf) (n : Neighbour) → IsNeighbour conf n → ReadAs (open_lines n) (open_options_of n)
 open_read conf n h = (
   hold_option_back n.hold h.hold,
   λ line at rest. refl,
@@ -205,7 +176,7 @@ open_read conf n h = (
   ),
 )
 
-route_read : (conf : Conf) (n : Neighbour) → IsNeighbour conf n → ReadAs (route_lines conf n) (route_of conf n)
+route_read : (conf : Conf) (n : Neighbour) → IsNeighbour conf n → ReadAs (route_lines conf n) (route_options_of conf n)
 route_read conf n h =
     read_both (given_lines max_prefix_pieces n.max_prefix) (rib_option_pieces conf n.rib ∷ set_option_lines n.set) (given_options options.MaxPrefix n.max_prefix) (options.Rib (rib_name conf n.rib) ∷ items_options n.set)
     (given_read (IsWithin 1 4294967295) max_prefix_pieces options.MaxPrefix max_prefix_back (λ x line at rest. refl) n.max_prefix h.max_prefix)
@@ -213,5 +184,5 @@ route_read conf n h =
 
 pub options_read : (conf : Conf) (n : Neighbour) → IsNeighbour conf n → ReadAs (option_lines conf n) (options_of conf n)
 options_read conf n h =
-    read_both (link_lines n) (open_lines n ++ route_lines conf n) (link_of n) (open_of n ++ route_of conf n) (link_read conf n h)
-    (read_both (open_lines n) (route_lines conf n) (open_of n) (route_of conf n) (open_read conf n h) (route_read conf n h))
+    read_both (link_lines n) (open_lines n ++ route_lines conf n) (link_options_of n) (open_options_of n ++ route_options_of conf n) (link_read conf n h)
+    (read_both (open_lines n) (route_lines conf n) (open_options_of n) (route_options_of conf n) (open_read conf n h) (route_read conf n h))

@@ -13,9 +13,9 @@ use Rattle.conf_tree.specs.Reading.{text_of}
 use Rattle.conf_tree.specs.Names.{is_name_byte, is_name}
 use Rattle.conf_tree.specs.Values.{before, past, is_part, part_in, is_pair, is_triple, pattern_of, pair_of, two_parts, triple_of, named_community, unnamed_community_at, or_unnamed, community_at, large_community_at, word_passes, in_range}
 use Rattle.conf_tree.specs.Canonical.{part_text, pattern_text, large_pattern_text, community_text}
-use Rattle.conf_kept.specs.Readable.{IsPart, IsPattern, IsLargePattern, IsWithin}
+use Rattle.conf_tree.specs.Readable.{IsPart, IsPattern, IsLargePattern, IsWithin}
 use Rattle.std.proofs.lemmas.Bool.Decides.{nat_tests}
-use Rattle.conf_kept.proofs.Both.{and_first, and_second}
+use Rattle.conf_tree.proofs.Both.{and_first, and_second}
 use Rattle.conf_round.proofs.ReadValues.{token, is_number_decimal, within_decimal, decimal_lacks, differs}
 
 -- ---- texts around a colon

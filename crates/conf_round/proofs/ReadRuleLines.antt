@@ -21,7 +21,8 @@ use Rattle.conf_tree.specs.Reading.{text_of, word_is, ends_line, keyword_at, unl
 use Rattle.conf_tree.specs.RuleReading.{Lists, peer_at, most_conditions, ends_conditions, conditions_at, place_of, rule_body_at, rib_rule_at, directed_rule_at, rule_at}
 use Rattle.conf_tree.specs.StatementReading.{Room, rule_statement_at, rule_word_at, peer_word_at, set_word_at, engine_word_at, statement_at}
 use Rattle.conf_tree.specs.Canonical.{rib_name, action_word, direction_word}
-use Rattle.conf_kept.specs.Readable.{Each, IsPeer, IsCondition, IsRuleRib, IsRule}
+use Rattle.conf_tree.specs.Readable.{Each, IsPeer, IsCondition, IsRuleRib, IsRule}
+use Rattle.conf_tree.specs.CanonicalDraft.{condition_block, rule_block}
 use Rattle.conf_round.proofs.Pieces.{Piece, line_tokens, line_finish}
 use Rattle.conf_round.proofs.Lines.{first, word}
 use Rattle.conf_round.proofs.ItemLines.{behind_pieces}
@@ -29,7 +30,7 @@ use Rattle.conf_round.proofs.RuleLines.{peer_pieces, condition_pieces, condition
 use Rattle.conf_round.proofs.ReadTexts.{name_back}
 use Rattle.conf_round.proofs.ReadLists.{starts_word, no_mark, tokens_append}
 use Rattle.conf_round.proofs.ReadStatements.{LineBack, no_word, set_back}
-use Rattle.conf_round.proofs.ReadRules.{peer_back, written, condition_back}
+use Rattle.conf_round.proofs.ReadRules.{peer_back, condition_back}
 
 -- ---- conditions
 
@@ -92,7 +93,7 @@ has_room : (room n : ℕ) → suc n ≤ room → eqb room 0 ≡ false
 has_room room n h = grind (arith, nat_tests)
 
 conditions_back : (conf : Conf) (lists : Lists) (room n line at : ℕ) (cs : List Condition) (rest : List Token) → Each (IsCondition conf) cs → length cs ≤ room → length cs ≤ n → ends_conditions rest ≡ true → word_is (codes "or-longer") rest ≡ false
-    → conditions_at lists room n (line_tokens line at (conditions_pieces conf cs) ++ rest) ≡ Ok (map (written conf) cs, rest)
+    → conditions_at lists room n (line_tokens line at (conditions_pieces conf cs) ++ rest) ≡ Ok (map (condition_block conf) cs, rest)
 unfolding conditions_at
 conditions_back conf lists room zero line at [] rest h fits fuel ends longer = rw ends refl
 conditions_back conf lists room (suc n) line at [] rest h fits fuel ends longer = rw ends refl
@@ -131,19 +132,6 @@ set_word line at item set rest = refl
 set_not_longer : (line at : ℕ) (set : List Item) (rest : List Token) → ends_line rest ≡ true → word_is (codes "or-longer") (line_tokens line at (behind_pieces set) ++ rest) ≡ false
 set_not_longer line at [] rest e = no_word (codes "or-longer") rest e
 set_not_longer line at (item ∷ set) rest e = set_word line at item set rest
-
--- ---- rules as they are written
-
-abbrev pub rule_block : Conf → Rule → RuleBlock
-rule_block conf r = record {
-  action = r.action;
-  quick = r.quick;
-  rib = option_map (rib_name conf) r.rib;
-  direction = r.direction;
-  peers = r.peer ∷ [];
-  conditions = map (written conf) r.conditions;
-  set = r.set;
-}
 
 peer_starts : (peer : Peer) (line at : ℕ) (rest : List Token) → starts_word (line_tokens line at (peer_pieces peer) ++ rest) ≡ true
 peer_starts peers.Any line at rest = refl

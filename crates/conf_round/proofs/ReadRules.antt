@@ -10,7 +10,6 @@ use Rattle.net_base.specs.Number.{number_of}
 use Rattle.conf_tree.specs.declared.token.Token.{Token}
 use Rattle.conf_tree.specs.declared.token.TokenKind.TheVariants.{Word}
 use Rattle.conf_tree.specs.declared.conf.Conf.{Conf}
-use Rattle.conf_tree.specs.declared.draft.ConditionBlock.{ConditionBlock}
 use Rattle.conf_tree.specs.declared.draft.ConditionBlock.TheVariants as blocks
 use Rattle.conf_tree.specs.declared.rule.CommunityPattern.{CommunityPattern}
 use Rattle.conf_tree.specs.declared.rule.LargePattern.{LargePattern}
@@ -25,7 +24,8 @@ use Rattle.conf_tree.specs.Reading.{text_of, word_is, word_in, mark_is, unless_f
 use Rattle.conf_tree.specs.Values.{address_of}
 use Rattle.conf_tree.specs.RuleReading.{Lists, group_peer_at, as_peer_at, address_peer_at, one_peer_at, known_peer_at, begins_peer, peer_at, ranged_at, rule_prefix_at, one_prefix_at, prefix_condition_at, prefix_set_condition_at, as_set_condition_at, one_number_at, path_condition_at, origin_set_condition_at, ovs_condition_at, community_condition_at, large_condition_at, max_as_len_condition_at, next_hop_condition_at, route_condition_at, plain_condition_at, other_condition_at, path_word_at, known_condition_at, condition_at}
 use Rattle.conf_tree.specs.Canonical.{prefix_set_name, as_set_name, origin_set_name, pattern_text, large_pattern_text, path_word}
-use Rattle.conf_kept.specs.Readable.{IsWithin, IsAs, IsName, IsRange, IsGroupName, IsPattern, IsLargePattern, IsPeer, least_as, IsCondition}
+use Rattle.conf_tree.specs.Readable.{IsWithin, IsAs, IsName, IsRange, IsGroupName, IsPattern, IsLargePattern, IsPeer, least_as, IsCondition}
+use Rattle.conf_tree.specs.CanonicalDraft.{condition_block}
 use Rattle.conf_round.proofs.Pieces.{line_tokens}
 use Rattle.conf_round.proofs.Words.{addr_read_back}
 use Rattle.conf_round.proofs.Lines.{word}
@@ -74,25 +74,11 @@ peer_back (peers.Address a) h = address_peer_back a
 peer_back (peers.Group name) h = group_peer_back name h
 peer_back (peers.As asn) h = as_peer_back asn h
 
--- ---- conditions as they are written
-
-abbrev pub written : Conf → Condition → ConditionBlock
-written conf (conditions.Prefix range) = blocks.Prefixes (range ∷ [])
-written conf (conditions.PrefixSet set) = blocks.PrefixSet (prefix_set_name conf set.at)
-written conf (conditions.PrefixSetOrLonger set) = blocks.PrefixSetOrLonger (prefix_set_name conf set.at)
-written conf (conditions.PathNumber part asn) = blocks.PathNumbers part (asn ∷ [])
-written conf (conditions.PathSet part set) = blocks.PathSet part (as_set_name conf set.at)
-written conf (conditions.OriginSet set) = blocks.OriginSet (origin_set_name conf set.at)
-written conf (conditions.Ovs ovs) = blocks.Ovs ovs
-written conf (conditions.Community pattern) = blocks.Community pattern
-written conf (conditions.LargeCommunity pattern) = blocks.LargeCommunity pattern
-written conf (conditions.MaxAsLen most) = blocks.MaxAsLen most
-written conf (conditions.NextHop address) = blocks.NextHop address
-written conf (conditions.Family family) = blocks.Family family
+-- ---- conditions as they are condition_block
 
 -- a condition is read back where the next word isn't `or-longer`
 abbrev pub ConditionBack : Conf → Condition → Type 0
-ConditionBack conf c = (lists : Lists) (line at : ℕ) (rest : List Token) → word_is (codes "or-longer") rest ≡ false → condition_at lists false (line_tokens line at (condition_pieces conf c) ++ rest) ≡ Ok ((written conf c, lists), rest)
+ConditionBack conf c = (lists : Lists) (line at : ℕ) (rest : List Token) → word_is (codes "or-longer") rest ≡ false → condition_at lists false (line_tokens line at (condition_pieces conf c) ++ rest) ≡ Ok ((condition_block conf c, lists), rest)
 
 prefix_condition_back : (conf : Conf) (r : PrefixRange) → IsRange r → ConditionBack conf (conditions.Prefix r)
 unfolding condition_at word_in word_is text_of unless_full known_condition_at prefix_condition_at mark_is one_prefix_at rule_prefix_at ranged_at

@@ -18,7 +18,7 @@ use Rattle.conf_tree.specs.declared.sets.OriginSetConf.{OriginSetConf}
 use Rattle.conf_tree.specs.Reading.{Member, is_separator, after_separators, text_of, word_is, mark_is, mark_at, ends_line, behind, keyword_at, unless_full, list_at}
 use Rattle.conf_tree.specs.RuleReading.{ranged_at, counted_number_at}
 use Rattle.conf_tree.specs.StatementReading.{Room, entry_at, prefix_entry_at, number_entry_at, optional_maxlen_at, source_at, authorization_at, counted_authorization_at, roa_entry_at, named_brace_at, prefix_set_at, as_set_at, origin_set_at, roa_set_at, set_word_at, engine_word_at, statement_at}
-use Rattle.conf_kept.specs.Readable.{Each, IsAs, IsRange, IsRoa, IsPrefixSet, IsAsSet, IsOriginSet}
+use Rattle.conf_tree.specs.Readable.{Each, IsAs, IsRange, IsRoa, IsPrefixSet, IsAsSet, IsOriginSet}
 use Rattle.conf_round.proofs.Pieces.{Piece, line_tokens, line_finish, end_token}
 use Rattle.conf_round.proofs.Texts.{lines_tokens}
 use Rattle.conf_round.proofs.Lines.{first, word, opening, shut}

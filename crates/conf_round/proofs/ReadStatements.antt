@@ -18,7 +18,7 @@ use Rattle.conf_tree.specs.Kinds.{is_word, is_line_end}
 use Rattle.conf_tree.specs.Reading.{text_of, word_is, word_in, mark_is, ends_line, keyword_at, unless_full, one_or_list_at}
 use Rattle.conf_tree.specs.ItemReading.{item_at, most_items, set_at, optional_set_at}
 use Rattle.conf_tree.specs.StatementReading.{Room, as_statement_at, router_id_at, hold_min_statement_at, hold_statement_at, any_hold_statement_at, fib_update_at, qualify_word_at, qualify_at, compare_word_at, med_compare_at, optional_table_at, rib_at, rde_at, socket_at, optional_port_at, listen_at, network_body_at, network_at, peer_word_at, set_word_at, engine_word_at, statement_at}
-use Rattle.conf_kept.specs.Readable.{IfThere, IsSet, IsAs, IsHold, IsWithin, IsQuotedText, IsListen, IsRib, IsNetwork}
+use Rattle.conf_tree.specs.Readable.{IfThere, IsSet, IsAs, IsHold, IsWithin, IsQuotedText, IsListen, IsRib, IsNetwork}
 use Rattle.conf_round.proofs.Pieces.{Piece, line_tokens, line_finish}
 use Rattle.conf_round.proofs.Lines.{word}
 use Rattle.conf_round.proofs.ItemLines.{item_pieces, more_pieces, set_pieces, behind_pieces}

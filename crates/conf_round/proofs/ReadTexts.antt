@@ -16,7 +16,7 @@ use Rattle.conf_tree.specs.declared.sets.PrefixRange.{PrefixRange}
 use Rattle.conf_tree.specs.Reading.{text_of, word_is, mark_is}
 use Rattle.conf_tree.specs.Values.{spelled, address_of, address_at, if_v4, v4_at, prefix_of_word, prefix_at, bound_at, word_passes, prefixlen_at, bounds_at, lengths_at, name_at, group_name_at, quoted_at, most_name_bytes, most_quoted_bytes, yes_no_at}
 use Rattle.conf_tree.specs.Canonical.{yes_no}
-use Rattle.conf_kept.specs.Readable.{IsName, IsGroupName, IsQuotedText, IsWithin, IsRange}
+use Rattle.conf_tree.specs.Readable.{IsName, IsGroupName, IsQuotedText, IsWithin, IsRange}
 use Rattle.conf_round.proofs.Words.{addr_read_back, prefix_read_back}
 use Rattle.conf_round.proofs.ReadValues.{token, number_back, not_joined, decimal_lacks, differs}
 

@@ -44,7 +44,7 @@ any_line room l s back line at rest e = back line at rest
 
 -- ---- statements of several lines
 
-shut_lines : (line : ℕ) (ls : List (List Piece)) → shut_line line ls ≡ line + length ls
+pub shut_lines : (line : ℕ) (ls : List (List Piece)) → shut_line line ls ≡ line + length ls
 shut_lines line [] = omega arith
 shut_lines line (l ∷ ls) = omega (arith, shut_lines (line + 1) ls)
 

@@ -17,7 +17,7 @@ use Rattle.conf_tree.specs.declared.token.TokenKind.{TokenKind}
 use Rattle.conf_tree.specs.declared.token.TokenKind.TheVariants.{Word}
 use Rattle.conf_tree.specs.Reading.{text_of, word_is}
 use Rattle.conf_tree.specs.Values.{within, in_range, word_passes, number_at, before, past, are_joined, as_number_at, hold_at}
-use Rattle.conf_kept.specs.Readable.{IsWithin, IsHold}
+use Rattle.conf_tree.specs.Readable.{IsWithin, IsHold}
 use Rattle.conf_round.proofs.Spread.{and_false}
 
 -- a token of a kind with a text, wherever it stands

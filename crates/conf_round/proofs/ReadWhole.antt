@@ -22,9 +22,9 @@ lines_of [] = []
 lines_of (u ∷ us) = u.0 ++ lines_of us
 
 -- the statements, of which the first begins on this line
-abbrev pub statements_from : ℕ → List Printed → List StatementLine
-statements_from line [] = []
-statements_from line (u ∷ us) = record { line = line; statement = u.1 line } ∷ statements_from (line + length u.0) us
+abbrev pub printed_from : ℕ → List Printed → List StatementLine
+printed_from line [] = []
+printed_from line (u ∷ us) = record { line = line; statement = u.1 line } ∷ printed_from (line + length u.0) us
 
 -- What is read of the lines of a statement: it, the end of its last line, and then the lines behind it.
 pub record Reads (room : Room) (u : Printed) (line at : ℕ) (more : List (List Piece)) : Type 0 where
@@ -80,7 +80,7 @@ unfolding statement_line_at
 statement_line_back room u line at more r =
     rw r.says (rw (past_end r.end_line r.end_place (lines_tokens (line + length u.0) r.next more)) (ap (λ (n : ℕ). Ok (record { line = n; statement = u.1 line }, lines_tokens (line + length u.0) r.next more)) r.begins))
 
-pub statements_back : (n : ℕ) (room : Room) (us : List Printed) (line at : ℕ) → SaysAll room us → length (lines_tokens line at (lines_of us)) ≤ n → statements_at room n (lines_tokens line at (lines_of us)) ≡ Ok (statements_from line us)
+pub statements_back : (n : ℕ) (room : Room) (us : List Printed) (line at : ℕ) → SaysAll room us → length (lines_tokens line at (lines_of us)) ≤ n → statements_at room n (lines_tokens line at (lines_of us)) ≡ Ok (printed_from line us)
 unfolding statements_at
 statements_back zero room us line at s fuel = absurd (omega (arith, some_left line at (lines_of us)))
 statements_back (suc n) room [] line at s fuel = rw (only_end line at) refl
@@ -93,6 +93,6 @@ statements_back (suc n) room (u ∷ us) line at s fuel =
     (rw (statements_back n (room_behind room (u.1 line)) us (line + length u.0) r.next (s.1 line) (omega (arith, r.longer, fuel))) refl)))
 
 -- the draft of the printed text
-pub draft_back : (us : List Printed) → SaysAll all_room us → draft_of (lines_tokens 1 0 (lines_of us)) ≡ Ok (record { statements = statements_from 1 us })
+pub draft_back : (us : List Printed) → SaysAll all_room us → draft_of (lines_tokens 1 0 (lines_of us)) ≡ Ok (record { statements = printed_from 1 us })
 unfolding draft_of
 draft_back us s = rw (statements_back (length (lines_tokens 1 0 (lines_of us))) all_room us 1 0 s (omega arith)) refl

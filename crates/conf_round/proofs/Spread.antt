@@ -1,7 +1,7 @@
 -- The bytes of a part of a line at their places.
 use Rattle.std.proofs.Common.{◌≡◌, ◌∙◌, ℕ, suc, ◌+◌, Bool, true, false, ◌&&◌, eqb, List, [], ◌∷◌, ◌++◌, length, Some, refl, ap, arith}
 use Rattle.conf_tree.specs.Joined.{Seen, joined_from, joins, begins_with_lf, is_lf}
-use Rattle.conf_lex.proofs.Joining.{byte_stays}
+use Rattle.conf_tree.proofs.Joining.{byte_stays}
 use Rattle.conf_round.proofs.Plain.{ArePlain}
 
 abbrev pub at : ℕ → ℕ → ℕ → Seen

@@ -1,5 +1,5 @@
 -- The tokens that are read of a whole canonical text: those that were printed, with an end behind each line.
-use Rattle.std.proofs.Common.{◌≡◌, ◌∙◌, ℕ, zero, suc, ◌+◌, ◌<◌, ◌≤◌, Bool, true, false, ◌&&◌, eqb, List, [], ◌∷◌, ◌++◌, length, length-append, append_assoc, take, take_all, Option, None, Result, Ok, refl, ap, sym, bytes_eq, arith}
+use Rattle.std.proofs.Common.{◌≡◌, ◌∙◌, ℕ, zero, suc, ◌+◌, ◌<◌, ◌≤◌, Bool, true, false, ◌&&◌, eqb, List, [], ◌∷◌, ◌++◌, length, length-append, append_assoc, take, take_all, Option, None, Result, Ok, refl, ap, bytes_eq, arith}
 use Rattle.std.specs.Str.{IsUtf8, IsAscii}
 use Rattle.std.specs.Str.Lossy.{utf8_valid_len}
 use Rattle.std.specs.Option.{option_map_or}
@@ -16,11 +16,10 @@ use Rattle.conf_tree.specs.Kinds as kinds
 use Rattle.conf_tree.specs.Names.{is_name}
 use Rattle.conf_tree.specs.Macros.{Macros, no_macros, Expanded, expanded, replaced, unchanged, given_for, asked, defined}
 use Rattle.conf_tree.specs.Tokens.{LineRead, line_with, line_read, line_read_of, lines_in, lines_read, tokens}
-use Rattle.conf_lex.specs.Reading.{put_read, put_tokens}
-use Rattle.conf_lex.proofs.Runs.{behind_off}
-use Rattle.conf_lex.proofs.Joining.{end_stays, joined_some}
-use Rattle.conf_lex.proofs.FirstLines.{line_ended}
-use Rattle.conf_lex.proofs.ReadingLines.{line_more, lines_begin}
+use Rattle.conf_tree.proofs.Runs.{behind_off}
+use Rattle.conf_tree.proofs.Joining.{end_stays, joined_some}
+use Rattle.conf_tree.proofs.FirstLines.{line_ended}
+use Rattle.conf_tree.proofs.LinesOn.{lines_on}
 use Rattle.conf_round.proofs.Plain.{ArePlain}
 use Rattle.conf_round.proofs.Spread.{and_false}
 use Rattle.conf_round.proofs.Cutting.{rules_at, AreBlank}
@@ -129,11 +128,10 @@ lines_later place (l ∷ ls) = omega (arith, finish_later place l, lines_later (
 step : (rules : Rules) (xs : List Seen) (out : LineRead) (more : List Token) → (xs ≡ [] → ⊥) → line_read rules no_macros 0 xs ≡ Ok out → out.macros ≡ no_macros → out.size ≡ 0 → lines_read rules no_macros 0 out.rest ≡ Ok more
     → lines_read rules no_macros 0 xs ≡ Ok (out.tokens ++ more)
 step rules xs out more some read macros size left =
-    sym (lines_begin (lines_read rules no_macros 0 xs))
-    ∙ sym ((line_more rules no_macros 0 xs [] out some (ap (put_read []) read)).0)
-    ∙ ap (λ (m : Macros). put_tokens out.tokens (lines_read rules m out.size out.rest)) macros
-    ∙ ap (λ (n : ℕ). put_tokens out.tokens (lines_read rules no_macros n out.rest)) size
-    ∙ ap (put_tokens out.tokens) left
+    lines_on rules no_macros 0 xs out some read
+    ∙ ap (λ (m : Macros). lines_read rules m out.size out.rest >>= (λ rest. Ok (out.tokens ++ rest))) macros
+    ∙ ap (λ (n : ℕ). lines_read rules no_macros n out.rest >>= (λ rest. Ok (out.tokens ++ rest))) size
+    ∙ ap (λ (all : Result (List Token) ConfFault). all >>= (λ rest. Ok (out.tokens ++ rest))) left
 
 pub lines_read_back : (bad line place : ℕ) (ls : List (List Piece)) → AreLines ls → lines_finish place ls ≤ bad → lines_read (rules_at bad) no_macros 0 (joined_from false line place (lines_text ls)) ≡ Ok (lines_tokens line place ls)
 lines_read_back bad line place [] good h =

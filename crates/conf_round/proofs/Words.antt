@@ -21,7 +21,7 @@ use Rattle.net_base.proofs.PrefixText.{read_prefix_complete, prefix_text-spells_
 use Rattle.conf_tree.specs.declared.token.TokenKind.TheVariants.{Word}
 use Rattle.conf_tree.specs.Names.{is_name_byte, is_name}
 use Rattle.conf_round.proofs.Plain.{IsPlain, ArePlain, IsInRanges, plain, digit, both_plain, all_plain, is_in_ranges, tested_plain}
-use Rattle.conf_kept.proofs.Both.{and_first, and_second}
+use Rattle.conf_tree.proofs.Both.{and_first, and_second}
 use Rattle.conf_round.proofs.Pieces.{IsText}
 
 -- plain bytes, at least one, are a word

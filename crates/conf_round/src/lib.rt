@@ -1,4 +1,4 @@
-//! What is read of a canonical text.
+//! Law: the canonical text of a configuration is read as its canonical draft.
 #![tactic(auto)]
 
 mod laws;

@@ -1,8 +1,11 @@
 //! The sets of a configuration, asked for what they hold.
 #![tactic(auto)]
 
-mod searching;
+mod as_table;
+mod range_side;
+mod range_table;
 mod sets;
+mod tables;
 
 pub use sets::Sets;
 

@@ -1,11 +1,20 @@
 use super::*;
-use crate::searching::{as_set, covers_some, holds_some, matches_some, origin_set, prefix_set};
+use crate::as_table::AsTable;
+use crate::range_table::RangeTable;
 use conf_tree::{
     AsSetConf, Conf, Members, OriginSetConf, PrefixRange, PrefixSetConf, SetId, SetKind,
 };
 use net_base::{Items, Ovs, Prefix, Roa};
 use std::alloc::Global;
 use std::test::*;
+
+fn range(prefix: &str, low: u8, high: u8) -> Result<PrefixRange, Fail> {
+    Ok(PrefixRange {
+        prefix: Prefix::read(prefix)?,
+        low,
+        high,
+    })
+}
 
 fn roa(maxlen: u8, source: u32) -> Result<Roa, Fail> {
     Ok(Roa {
@@ -19,14 +28,9 @@ fn roa(maxlen: u8, source: u32) -> Result<Roa, Fail> {
 /// /25 for AS 65002, for which there is an authorization of /24 alone.
 fn conf(alloc: Global) -> Result<Conf, Fail> {
     let mut conf = Conf::empty(alloc);
-    let range = PrefixRange {
-        prefix: Prefix::read("10.0.0.0/8")?,
-        low: 16,
-        high: 24,
-    };
     conf.prefix_sets.push(PrefixSetConf {
         name: Items::from_slice(alloc, b"inside")?,
-        entries: Items::from_slice(alloc, &[range])?,
+        entries: Items::from_slice(alloc, &[range("10.0.0.0/8", 16, 24)?])?,
     })?;
     conf.as_sets.push(AsSetConf {
         name: Items::from_slice(alloc, b"peers")?,
@@ -44,46 +48,35 @@ fn prefix(text: &str) -> Result<Prefix, Fail> {
     Ok(Prefix::read(text)?)
 }
 
-// A prefix, whether the set has it, and whether it does with longer ones.
+// A prefix, whether the set has it, and whether it does with longer ones. The entries are out of order.
 #[test]
 fn prefixes(rt: HostRuntime) -> Result<(), Fail> {
-    let conf = conf(rt.alloc())?;
-    let entries = prefix_set(conf.prefix_sets.as_slice(), 0);
+    let entries = [
+        range("10.1.0.0/16", 28, 28)?,
+        range("2001:db8::/32", 32, 48)?,
+        range("10.0.0.0/8", 16, 24)?,
+        range("10.1.0.0/16", 25, 26)?,
+    ];
+    let table = RangeTable::build(rt.alloc(), entries.as_slice())?;
     let rows = [
         ("10.1.0.0/16", true, true),
         ("10.1.2.0/24", true, true),
-        ("10.1.2.0/25", false, true),
+        ("10.1.2.0/25", true, true),
+        ("10.1.2.0/27", false, true),
+        ("10.1.2.0/28", true, true),
+        ("10.2.2.0/25", false, true),
         ("10.0.0.0/15", false, true),
         ("10.0.0.0/8", false, true),
         ("0.0.0.0/0", false, false),
         ("11.0.0.0/16", false, false),
         ("::/16", false, false),
+        ("2001:db8:1::/48", true, true),
+        ("2001:db8:1::/49", false, true),
     ];
     for (text, held, covered) in rows {
         let prefix = prefix(text)?;
-        assert_eq!(rt; holds_some(entries, prefix), held, "{text}");
-        assert_eq!(rt; covers_some(entries, prefix), covered, "{text}");
-    }
-    Ok(())
-}
-
-// A prefix with its origin, and whether the set has it.
-#[test]
-fn origins(rt: HostRuntime) -> Result<(), Fail> {
-    let conf = conf(rt.alloc())?;
-    let entries = origin_set(conf.origin_sets.as_slice(), 0);
-    let rows = [
-        ("192.0.2.0/25", Some(65002), true),
-        ("192.0.2.0/26", Some(65002), false),
-        ("192.0.2.0/24", Some(65003), false),
-        ("192.0.2.0/24", None, false),
-    ];
-    for (text, origin, matched) in rows {
-        assert_eq!(rt;
-            matches_some(entries, prefix(text)?, origin),
-            matched,
-            "{text}"
-        );
+        assert_eq!(rt; table.holds(prefix), held, "{text}");
+        assert_eq!(rt; table.covers(prefix), covered, "{text}");
     }
     Ok(())
 }
@@ -91,10 +84,9 @@ fn origins(rt: HostRuntime) -> Result<(), Fail> {
 #[test]
 fn sets_are_asked(rt: HostRuntime) -> Result<(), Fail> {
     let conf = conf(rt.alloc())?;
-    let numbers = as_set(conf.as_sets.as_slice(), 0);
-    assert!(rt; numbers.contains(&65004));
-    assert!(rt; !numbers.contains(&65003));
-    assert!(rt; as_set(conf.as_sets.as_slice(), 1).is_empty());
+    let numbers = AsTable::build(rt.alloc(), &[65004, 65002])?;
+    assert!(rt; numbers.has(65004));
+    assert!(rt; !numbers.has(65003));
     let sets = Sets::build(rt.alloc(), &conf)?;
     let said = sets.ovs(prefix("192.0.2.0/24")?, Some(65002));
     assert_eq!(rt; said, Ovs::Valid);

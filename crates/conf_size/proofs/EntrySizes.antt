@@ -4,7 +4,7 @@ use Rattle.net_base.specs.declared.prefix.Prefix.{Prefix}
 use Rattle.net_base.specs.declared.roa.Roa.{Roa}
 use Rattle.conf_tree.specs.declared.sets.PrefixRange.{PrefixRange}
 use Rattle.conf_tree.specs.Canonical.{entry_line, range_text, roa_text, range_line, number_line, roa_line}
-use Rattle.conf_kept.specs.Readable.{IsWithin, IsLength, IsRange, IsRoa, IsAs}
+use Rattle.conf_tree.specs.Readable.{IsWithin, IsLength, IsRange, IsRoa, IsAs}
 use Rattle.conf_size.proofs.AddressSizes.{three_digits, ten_digits, width_most, prefix_size}
 
 length_digits : (p : Prefix) (n : ℕ) → IsLength p n → length (decimal n) ≤ 3

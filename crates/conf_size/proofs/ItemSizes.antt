@@ -13,7 +13,7 @@ use Rattle.conf_tree.specs.declared.rule.Item.{Item}
 use Rattle.conf_tree.specs.declared.rule.Item.TheVariants as items
 use Rattle.conf_tree.specs.declared.draft.SetPlace.{SetPlace}
 use Rattle.conf_tree.specs.Canonical.{change_text, part_text, pattern_text, large_pattern_text, community_text, large_text, origin_word, hop_text, item_text, set_text, set_behind, set_option}
-use Rattle.conf_kept.specs.Readable.{Each, IsWithin, IsChange, IsPart, IsPattern, IsLargePattern, IsItem, IsSet}
+use Rattle.conf_tree.specs.Readable.{Each, IsWithin, IsChange, IsPart, IsPattern, IsLargePattern, IsItem, IsSet}
 use Rattle.conf_size.proofs.ListSizes.{each_size}
 use Rattle.conf_size.proofs.AddressSizes.{three_digits, five_digits, ten_digits, addr_size}
 use Rattle.conf_size.proofs.EntrySizes.{number_digits}

@@ -1,14 +1,8 @@
-pub mod AddressSizes
-pub mod CutCounts
-pub mod EntrySizes
-pub mod ItemSizes
-pub mod ListSizes
-pub mod MacroCounts
-pub mod NeighbourSizes
-pub mod Numbers
-pub mod RuleSizes
-pub mod SetCounts
-pub mod SetSizes
+mod AddressSizes
+mod EntrySizes
+mod ItemSizes
+mod ListSizes
+mod NeighbourSizes
+mod RuleSizes
+mod SetSizes
 pub mod TextSizes
-pub mod TokenCounts
-pub mod Short

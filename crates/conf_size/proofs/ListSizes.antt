@@ -1,7 +1,7 @@
 -- A text made of the entries of a list has no more bytes than the greatest entry times their number.
 use Rattle.std.proofs.Common.{ℕ, ◌+◌, ◌*◌, ◌≤◌, List, [], ◌∷◌, length, flat_map, arith, length-append}
 use Rattle.std.proofs.Math.Nat.{mul-add, mul-suc}
-use Rattle.conf_kept.specs.Readable.{Each, total}
+use Rattle.conf_tree.specs.Readable.{Each, total}
 
 module _ {A : Type 0} (text : A → List ℕ) where
   pub all_size : (most : ℕ) (xs : List A) → ((x : A) → length (text x) ≤ most) → length (flat_map text xs) ≤ most * length xs

@@ -6,9 +6,9 @@ use Rattle.conf_tree.specs.declared.conf.Conf.{Conf}
 use Rattle.conf_tree.specs.declared.neighbour.Neighbour.{Neighbour}
 use Rattle.conf_tree.specs.declared.draft.SetPlace.TheVariants as places
 use Rattle.conf_tree.specs.Canonical.{yes_no, if_given, quoted, remote_as_line, local_address_line, descr_line, port_line, multihop_line, way_options, link_options, unicast, hold_options, families_options, capability_options, open_options, max_prefix_line, rib_option, route_options, neighbour_text, group_text, is_alone, is_of_group, group_names, neighbours_text}
-use Rattle.conf_kept.specs.Readable.{Each, IfThere, IsWithin, IsHold, IsQuotedText, IsGroupName, IsNeighbour, IsReadable, total, members_of}
-use Rattle.conf_kept.proofs.Each.{each_filter}
-use Rattle.conf_kept.proofs.GroupNames.{each_group}
+use Rattle.conf_tree.specs.Readable.{Each, IfThere, IsWithin, IsHold, IsQuotedText, IsGroupName, IsNeighbour, IsReadable, total, members_of}
+use Rattle.conf_tree.proofs.Each.{each_filter}
+use Rattle.conf_tree.proofs.GroupNames.{each_group}
 use Rattle.conf_size.proofs.ListSizes.{each_size, each_total_size}
 use Rattle.conf_size.proofs.AddressSizes.{three_digits, five_digits, addr_size}
 use Rattle.conf_size.proofs.EntrySizes.{number_digits}

@@ -20,7 +20,7 @@ use Rattle.conf_tree.specs.declared.rule.Condition.TheVariants as conditions
 use Rattle.conf_tree.specs.declared.rule.Rule.{Rule}
 use Rattle.conf_tree.specs.RuleReading.{place_of}
 use Rattle.conf_tree.specs.Canonical.{if_set, if_given, quoted, network_line, action_word, direction_word, peer_text, path_word, ovs_word, family_word, condition_text, condition_behind, rib_behind, rule_head, rule_line}
-use Rattle.conf_kept.specs.Readable.{IsNetwork, IsPeer, IsCondition, IsRuleRib, IsRule, least_as}
+use Rattle.conf_tree.specs.Readable.{IsNetwork, IsPeer, IsCondition, IsRuleRib, IsRule, least_as}
 use Rattle.conf_size.proofs.ListSizes.{each_size}
 use Rattle.conf_size.proofs.AddressSizes.{four_digits, addr_size, prefix_size}
 use Rattle.conf_size.proofs.EntrySizes.{number_digits, range_size}

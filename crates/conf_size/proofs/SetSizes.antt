@@ -6,8 +6,8 @@ use Rattle.conf_tree.specs.declared.sets.PrefixSetConf.{PrefixSetConf}
 use Rattle.conf_tree.specs.declared.sets.AsSetConf.{AsSetConf}
 use Rattle.conf_tree.specs.declared.sets.OriginSetConf.{OriginSetConf}
 use Rattle.conf_tree.specs.Canonical.{set_head, range_line, number_line, roa_line, prefix_set_text, as_set_text, origin_set_text, roa_set_text, sets_text}
-use Rattle.conf_kept.specs.Readable.{Each, IsName, IsRange, IsRoa, IsAs, IsPrefixSet, IsAsSet, IsOriginSet, IsReadable, total, entries_of}
-use Rattle.conf_size.proofs.Numbers.{sets_of}
+use Rattle.conf_tree.specs.Readable.{Each, IsName, IsRange, IsRoa, IsAs, IsPrefixSet, IsAsSet, IsOriginSet, IsReadable, total, entries_of}
+use Rattle.conf_size.specs.Numbers.{sets_of}
 use Rattle.conf_size.proofs.ListSizes.{each_size, each_total_size}
 use Rattle.conf_size.proofs.EntrySizes.{range_line_size, number_line_size, roa_line_size}
 

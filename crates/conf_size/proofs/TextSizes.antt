@@ -4,8 +4,8 @@ use Rattle.conf_tree.specs.declared.conf.Conf.{Conf}
 use Rattle.conf_tree.specs.declared.conf.Listen.{Listen}
 use Rattle.conf_tree.specs.declared.conf.Rib.{Rib}
 use Rattle.conf_tree.specs.Canonical.{if_given, quoted, as_line, router_id_line, hold_line, hold_min_line, fib_update_line, qualify_line, med_line, socket_line, listen_line, table_behind, rib_line, network_line, rule_line, globals_text, canonical}
-use Rattle.conf_kept.specs.Readable.{IfThere, IsWithin, IsHold, IsAs, IsQuotedText, IsListen, IsRib, IsNetwork, IsRule, IsReadable, IsWithinLimits}
-use Rattle.conf_size.proofs.Numbers.{sets_of}
+use Rattle.conf_tree.specs.Readable.{IfThere, IsWithin, IsHold, IsAs, IsQuotedText, IsListen, IsRib, IsNetwork, IsRule, IsReadable, IsWithinLimits}
+use Rattle.conf_size.specs.Numbers.{sets_of}
 use Rattle.conf_size.proofs.ListSizes.{each_size}
 use Rattle.conf_size.proofs.AddressSizes.{three_digits, five_digits, v4_size, addr_size}
 use Rattle.conf_size.proofs.EntrySizes.{number_digits}

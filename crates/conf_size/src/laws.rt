@@ -1,10 +1,12 @@
-ghost use Rattle.std.specs.Prelude.{◌≡◌, ℕ, ◌≤◌, List, length, Ok};
+ghost use Rattle.std.specs.Prelude.{◌+◌, ◌*◌, ◌≤◌, length};
+ghost use Rattle.conf_size.specs.Numbers.{sets_of};
 ghost use Rattle.conf_tree.specs.declared.conf.Conf.{Conf};
 ghost use Rattle.conf_tree.specs.Canonical.{canonical};
-ghost use Rattle.conf_tree.specs.Language.{configuration, most_canonical_bytes};
+ghost use Rattle.conf_tree.specs.Readable.{IsReadable, IsWithinLimits};
 
-/// No canonical text of a configuration that a text of a file or of a `reload` says is longer than 134,217,728 bytes.
-#[tactic(auto, using(crate::proofs::Short::short))]
-pub fn canonical_texts_are_short()
-    ensures { (text : List ℕ) (conf : Conf) → configuration text ≡ Ok conf → length (canonical conf) ≤ most_canonical_bytes }
+/// A canonical text has at most 47 bytes for each named set, and 35,651,537 besides, where the values of the
+/// configuration can be written and it has no more of anything than the language takes.
+#[tactic(auto, using(crate::proofs::TextSizes::canonical_size))]
+pub fn canonical_texts_are_measured()
+    ensures { (conf : Conf) → IsReadable conf → IsWithinLimits conf → length (canonical conf) ≤ 47 * sets_of conf + 35651537 }
 {}

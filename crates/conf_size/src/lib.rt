@@ -1,6 +1,6 @@
-//! How long the canonical text of a configuration is.
+//! Law: how long the canonical text of a configuration is.
 #![tactic(auto)]
 
 mod laws;
 
-pub use laws::canonical_texts_are_short;
+pub use laws::canonical_texts_are_measured;

@@ -9,8 +9,8 @@ use Rattle.std.proofs.lemmas.Bool.Decides.{nat_tests}
 use Rattle.std.proofs.lemmas.Str.{IsUtf8-append, IsUtf8-from_ascii, IsUtf8-nil, encode_ascii, length-encode, len_utf8_bounds}
 use Rattle.conf_tree.specs.Joined.{Seen, is_lf, begins_with_lf, joins, line_behind, unless_gone, joined_from}
 use Rattle.conf_tree.specs.Cuts.{Rules, byte_is, front_is, is_quote, in_quotes, run, behind, bytes_of}
-use Rattle.conf_kept.specs.Readable.{Each}
-use Rattle.conf_kept.proofs.Both.{and_first, and_second}
+use Rattle.conf_tree.specs.Readable.{Each}
+use Rattle.conf_tree.proofs.Both.{and_first, and_second}
 
 -- no byte is ASCII
 abbrev pub AreHigh : List ℕ → Type 0

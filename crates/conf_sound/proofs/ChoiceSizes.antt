@@ -14,7 +14,7 @@ use Rattle.conf_tree.specs.declared.rule.Rule.{Rule}
 use Rattle.conf_tree.specs.Said.{said, rule_of}
 use Rattle.conf_tree.specs.Flat.{prefix_set_id, as_set_id, origin_set_id, ways, followed_by, chosen, choices, flat_conditions, rule_with, flat_rules, rules_of}
 use Rattle.conf_tree.specs.RuleReading.{factor, factors, flat_rules_of}
-use Rattle.conf_kept.specs.Readable.{total}
+use Rattle.conf_tree.specs.Readable.{total}
 use Rattle.conf_sound.proofs.Totals.{total_same, total_le, total_ones, total_times, total_map, total_flat_map}
 
 pub length_flat_map : {A B : Type 0} (f : A → List B) (xs : List A) → length (flat_map f xs) ≡ total (λ x. length (f x)) xs

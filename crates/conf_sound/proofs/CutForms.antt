@@ -9,8 +9,8 @@ use Rattle.conf_tree.specs.declared.token.TokenKind.TheVariants.{LineEnd}
 use Rattle.conf_tree.specs.Joined.{Seen, is_lf, joined, joined_from, joins, line_behind, unless_gone}
 use Rattle.conf_tree.specs.Kinds.{is_quoted, is_line_end}
 use Rattle.conf_tree.specs.Cuts.{Rules, byte_is, front_is, is_quote, is_hash, mark_size, is_word_byte, in_blanks, in_comment, in_word, behind, token_at, fault_at, Cut, text_end, quoted_cut, mark_cut, end_in_front, word_ended, word_cut, cut_by, cut_at, behind_comment, behind_blanks, first_cut_at, first_cut, Line, in_front_of, line_by, line_in, first_line, plain_rules, split}
-use Rattle.conf_kept.specs.Readable.{Each, can_be_quoted}
-use Rattle.conf_kept.proofs.Both.{and_first, and_second}
+use Rattle.conf_tree.specs.Readable.{Each, can_be_quoted}
+use Rattle.conf_tree.proofs.Both.{and_first, and_second}
 use Rattle.conf_sound.proofs.Finds.{IsGood, AreGood}
 
 -- a token that isn't quoted

@@ -7,7 +7,7 @@ use Rattle.conf_tree.specs.Faults.{◌>>=◌}
 use Rattle.conf_tree.specs.Reading.{Reading, behind, word_is}
 use Rattle.conf_tree.specs.Values.{width}
 use Rattle.conf_tree.specs.StatementReading.{optional_table_at, optional_port_at, entry_at, prefix_entry_at, number_entry_at, optional_maxlen_at, source_at, authorization_at, counted_authorization_at, roa_entry_at, named_brace_at}
-use Rattle.conf_kept.specs.Readable.{IfThere, IsName, IsWithin, IsRange, IsRoa, IsAs, IsLength}
+use Rattle.conf_tree.specs.Readable.{IfThere, IsName, IsWithin, IsRange, IsRoa, IsAs, IsLength}
 use Rattle.conf_sound.proofs.Finds.{AreGood, Finds, ok, bind, bind_rest, either, good_behind, reading}
 use Rattle.conf_sound.proofs.ReadingForms.{IsMember, ReadsMembers, unless_full_form, keyword_form, mark_form}
 use Rattle.conf_sound.proofs.ValueForms.{number_form, as_number_form, prefix_form, own_length, name_form}

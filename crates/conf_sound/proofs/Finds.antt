@@ -6,7 +6,7 @@ use Rattle.conf_tree.specs.declared.token.Token.{Token}
 use Rattle.conf_tree.specs.Faults.{◌>>=◌}
 use Rattle.conf_tree.specs.Kinds.{is_quoted}
 use Rattle.conf_tree.specs.Reading.{Reading, behind}
-use Rattle.conf_kept.specs.Readable.{Each, IfThere, can_be_quoted}
+use Rattle.conf_tree.specs.Readable.{Each, IfThere, can_be_quoted}
 
 -- the text between quotes holds no quote and no line end, and is UTF-8
 pub record IsGood (token : Token) : Type 0 where

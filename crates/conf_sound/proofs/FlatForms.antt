@@ -33,7 +33,7 @@ use Rattle.conf_tree.specs.Names.{is_name}
 use Rattle.conf_tree.specs.Said.{said, last_said, last_option, as_of, router_id_of, hold_of, hold_min_of, socket_of, listen_of, rib_of, prefix_set_of, as_set_of, origin_set_of, roas_of, network_of, rule_of, remote_as_of, description_of, port_of, multihop_of, hold_option_of, hold_min_option_of, max_prefix_of, rib_option_of, set_option_of}
 use Rattle.conf_tree.specs.Flat.{text_cmp, range_cmp, roa_cmp, in_order, default_socket, prefix_sets_of, as_sets_of, origin_sets_of, roas_said, networks_of, frame_of, loc_rib, below, place_of, rib_number, set_id, prefix_set_id, as_set_id, origin_set_id, Placed, placed_in, placed, taken, neighbour_of, neighbours_of, ways, flat_conditions, choices, rule_with, flat_rules, rules_of}
 use Rattle.conf_tree.specs.Canonical.{name_at, prefix_set_name, as_set_name, origin_set_name, rib_name}
-use Rattle.conf_kept.specs.Readable.{Each, IfThere, IsName, IsQuotedText, IsGroupName, IsWithin, IsHold, IsSet, IsListen, IsRib, IsRange, IsRoa, IsAs, IsPrefixSet, IsAsSet, IsOriginSet, IsNetwork, IsNeighbour, IsPeer, IsCondition, IsRuleRib, IsRule}
+use Rattle.conf_tree.specs.Readable.{Each, IfThere, IsName, IsQuotedText, IsGroupName, IsWithin, IsHold, IsSet, IsListen, IsRib, IsRange, IsRoa, IsAs, IsPrefixSet, IsAsSet, IsOriginSet, IsNetwork, IsNeighbour, IsPeer, IsCondition, IsRuleRib, IsRule}
 use Rattle.conf_sound.specs.InForm.{IsOption, IsOptionLine, IsBlock, IsConditionBlock, HasRib, IsRuleBlock, IsStatement, IsStatementLine, AreStatements}
 use Rattle.conf_sound.proofs.ValueForms.{seen_utf8}
 use Rattle.conf_sound.proofs.Lists.{last_form, unwrap_form, unwrap_some, or_form, in_order_form, each_map, each_filter_map, then_form, map_form, each_flat_map, IsEntry, by_key_form, AreChosen, choices_form}

@@ -9,8 +9,8 @@ use Rattle.std.proofs.lemmas.Slice.Eq.{bytes_eq-Decides}
 use Rattle.conf_tree.specs.declared.neighbour.Neighbour.{Neighbour}
 use Rattle.conf_tree.specs.Flat.{text_cmp}
 use Rattle.conf_tree.specs.Canonical.{group_names}
-use Rattle.conf_kept.specs.Readable.{total}
-use Rattle.conf_kept.proofs.GroupNames.{names_sorted}
+use Rattle.conf_tree.specs.Readable.{total}
+use Rattle.conf_tree.proofs.GroupNames.{names_sorted}
 use Rattle.conf_sound.proofs.Totals.{one}
 
 -- each name is there once at most

@@ -16,9 +16,9 @@ use Rattle.conf_tree.specs.Said.{said}
 use Rattle.conf_tree.specs.Flat.{Placed, placed_in, placed, neighbour_of, neighbours_of, by_key, text_cmp}
 use Rattle.conf_tree.specs.Checks.{group_name_of}
 use Rattle.conf_tree.specs.Canonical.{is_alone, is_of_group, with_name, group_names}
-use Rattle.conf_kept.specs.Readable.{Each, IfThere, total}
+use Rattle.conf_tree.specs.Readable.{Each, IfThere, total}
 use Rattle.conf_sound.proofs.Lists.{each_map, IsEntry, by_key_form}
-use Rattle.conf_kept.proofs.Each.{each_append, each_insert}
+use Rattle.conf_tree.proofs.Each.{each_append, each_insert}
 use Rattle.conf_sound.proofs.Totals.{one, total_same, total_le, total_le_each, total_both, total_none, total_ones, total_swap, length_filter}
 use Rattle.conf_sound.proofs.Sizes.{by_key_size}
 use Rattle.conf_sound.proofs.ChoiceSizes.{length_flat_map, length_mapped}

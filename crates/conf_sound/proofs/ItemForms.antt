@@ -12,7 +12,7 @@ use Rattle.conf_tree.specs.declared.draft.SetPlace.{SetPlace}
 use Rattle.conf_tree.specs.Reading.{Reading, behind, fails, unexpected, word_is, word_in, unless_full}
 use Rattle.conf_tree.specs.Values.{in_range, within, word_text, number_or_zero}
 use Rattle.conf_tree.specs.ItemReading.{unsigned, changed_by, change_at, local_pref_at, med_at, weight_at, prepend_self_at, prepend_neighbor_at, origin_at, deleted_community_at, added_community_at, community_item_at, deleted_large_at, added_large_at, large_item_at, is_to, is_network, is_refused_hop, hop_address_at, next_hop_item_at, left_out_of_rules, item_words, naming_item_at, route_item_at, known_item_at, is_refused_item, item_at, most_items, set_at, optional_set_at}
-use Rattle.conf_kept.specs.Readable.{IfThere, IsWithin, IsChange, IsPart, IsItem, IsSet}
+use Rattle.conf_tree.specs.Readable.{IfThere, IsWithin, IsChange, IsPart, IsItem, IsSet}
 use Rattle.conf_sound.proofs.Finds.{AreGood, Finds, ok, err, bind, either, wider, good_behind, reading}
 use Rattle.conf_sound.proofs.ReadingForms.{ReadsMembers, unless_full_form, one_or_list_form}
 use Rattle.conf_sound.proofs.ValueForms.{within_form, in_range_form, number_form, address_form, community_form, large_community_form, part_small, one_small}

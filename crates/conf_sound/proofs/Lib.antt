@@ -1,30 +1,34 @@
-pub mod Finds
-pub mod ReadingForms
-pub mod ValueForms
-pub mod ItemForms
-pub mod RuleForms
-pub mod NeighbourForms
-pub mod EntryForms
-pub mod StatementForms
-pub mod Lists
-pub mod FlatForms
-pub mod WholeForms
-pub mod Characters
-pub mod TextRules
-pub mod CutForms
-pub mod SoundCuts
-pub mod TokenForms
+mod Finds
+mod ReadingForms
+mod ValueForms
+mod ItemForms
+mod RuleForms
+mod NeighbourForms
+mod EntryForms
+mod StatementForms
+mod Lists
+mod FlatForms
+mod WholeForms
+mod Characters
+mod TextRules
+mod CutForms
+mod SoundCuts
+mod TokenForms
 pub mod Whole
-pub mod Totals
-pub mod Sizes
-pub mod ChoiceSizes
-pub mod StatementCounts
-pub mod GroupNames
-pub mod GroupSizes
-pub mod LimitForms
-pub mod SettledLists
-pub mod SettledNames
-pub mod SettledKeys
-pub mod SettledNeighbours
-pub mod SettledRules
+mod Totals
+mod Sizes
+mod ChoiceSizes
+mod StatementCounts
+mod GroupNames
+mod GroupSizes
+mod LimitForms
+mod SettledLists
+mod SettledNames
+mod SettledKeys
+mod SettledNeighbours
+mod SettledRules
 pub mod Settled
+mod MacroCounts
+mod CutCounts
+mod TokenCounts
+pub mod SetCounts

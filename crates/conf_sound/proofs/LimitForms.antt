@@ -21,7 +21,7 @@ use Rattle.conf_tree.specs.Flat.{text_cmp, range_cmp, roa_cmp, in_order, by_key,
 use Rattle.conf_tree.specs.Checks.{group_name_of, first_fault, checked}
 use Rattle.conf_tree.specs.RuleReading.{flat_rules_of}
 use Rattle.conf_tree.specs.StatementReading.{all_room}
-use Rattle.conf_kept.specs.Readable.{total, IsWithinLimits}
+use Rattle.conf_tree.specs.Readable.{total, IsWithinLimits}
 use Rattle.conf_sound.proofs.StatementForms.{Gives, IsDraft}
 use Rattle.conf_sound.proofs.Totals.{there, total_le, total_both, total_ones, total_map, total_filter_map}
 use Rattle.conf_sound.proofs.Sizes.{in_order_size, by_key_total, by_key_size}

@@ -9,8 +9,8 @@ use Rattle.std.specs.declared.cmp.Ordering.TheVariants.{Less, Equal, Greater}
 use Rattle.std.specs.BTreeMap.{insert_entry}
 use Rattle.std.specs.BTreeSet.{insert_key}
 use Rattle.conf_tree.specs.Flat.{in_order, with_entry, by_key, followed_by, chosen, choices}
-use Rattle.conf_kept.specs.Readable.{Each, IfThere}
-use Rattle.conf_kept.proofs.Each.{each_append, each_insert}
+use Rattle.conf_tree.specs.Readable.{Each, IfThere}
+use Rattle.conf_tree.proofs.Each.{each_append, each_insert}
 
 module _ {A : Type 0} (Is : A → Type 0) where
   pub last_form : (o : Option A) (xs : List A) → IfThere Is o → Each Is xs → IfThere Is (last_or o xs)

@@ -11,7 +11,7 @@ use Rattle.conf_tree.specs.declared.draft.SetPlace.TheVariants as places
 use Rattle.conf_tree.specs.Faults.{◌>>=◌}
 use Rattle.conf_tree.specs.Reading.{Reading, line_of, fails, behind, word_is, mark_is}
 use Rattle.conf_tree.specs.NeighbourReading.{remote_as_at, local_address_at, description_at, port_at, multihop_at, hold_min_option_at, hold_option_at, any_hold_option_at, family_at, announce_refresh_at, announce_as_4byte_at, capability_at, announce_at, max_prefix_at, rib_option_at, set_option_at, no_option_at, routing_option_at, session_option_at, connection_option_at, option_at, after_line_ends, separated_at, option_line_at, options_at, neighbour_body_at, neighbour_at, Members, with_option, with_neighbour, neighbour_line_at, group_members_at, group_at}
-use Rattle.conf_kept.specs.Readable.{Each}
+use Rattle.conf_tree.specs.Readable.{Each}
 use Rattle.conf_sound.specs.InForm.{IsOption, IsOptionLine, IsBlock, IsGroup}
 use Rattle.conf_sound.proofs.Finds.{AreGood, Finds, Leaves, ok, err, bind, bind_rest, either, good_behind, reading}
 use Rattle.conf_sound.proofs.ReadingForms.{IsMember, AreAtMost, one_more, good_drop, unless_full_form, mark_form}

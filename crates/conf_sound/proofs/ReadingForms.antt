@@ -5,7 +5,7 @@ use Rattle.net_base.specs.declared.conf.Counted.{Counted}
 use Rattle.conf_tree.specs.declared.token.Token.{Token}
 use Rattle.conf_tree.specs.Faults.{◌>>=◌}
 use Rattle.conf_tree.specs.Reading.{Reading, Member, behind, keyword_at, mark_at, mark_is, line_end_at, after_separators, members_at, list_at, full_list_at, one_or_list_at, unless_full}
-use Rattle.conf_kept.specs.Readable.{Each}
+use Rattle.conf_tree.specs.Readable.{Each}
 use Rattle.conf_sound.proofs.Finds.{AreGood, Finds, Leaves, ok, err, bind, either, wider, good_behind, reading}
 
 pub good_drop : (n : ℕ) (tokens : List Token) → AreGood tokens → AreGood (drop n tokens)

@@ -19,7 +19,7 @@ use Rattle.conf_tree.specs.Faults.{◌>>=◌}
 use Rattle.conf_tree.specs.Reading.{behind, unexpected, word_is}
 use Rattle.conf_tree.specs.Values.{lengths_at}
 use Rattle.conf_tree.specs.RuleReading.{most_conditions, group_peer_at, as_peer_at, address_peer_at, one_peer_at, known_peer_at, peer_at, ranged_at, rule_prefix_at, counted_number_at, rule_number_at, Lists, with_prefixes, with_numbers, Condition, prefix_list_at, one_prefix_at, prefix_condition_at, prefix_set_condition_at, number_list_at, as_set_condition_at, one_number_at, path_condition_at, origin_set_condition_at, ovs_condition_at, community_condition_at, large_condition_at, max_as_len_condition_at, next_hop_condition_at, route_condition_at, plain_condition_at, other_condition_at, path_word_at, known_condition_at, condition_at, ends_conditions, conditions_at, factor, factors, flat_rules_of, place_of, rule_body_at, rib_rule_at, directed_rule_at, rule_at}
-use Rattle.conf_kept.specs.Readable.{IsWithin, IsRange, IsPeer, least_as}
+use Rattle.conf_tree.specs.Readable.{IsWithin, IsRange, IsPeer, least_as}
 use Rattle.conf_sound.specs.InForm.{IsConditionBlock, HasRib, IsRuleBlock}
 use Rattle.conf_sound.proofs.Finds.{AreGood, Finds, ok, err, bind, bind_rest, either, good_behind, reading}
 use Rattle.conf_sound.proofs.ReadingForms.{IsMember, ReadsMembers, AreAtMost, one_more, unless_full_form, full_list_form, one_or_list_form, keyword_form}

@@ -1,17 +1,19 @@
 -- What the checks leave in every configuration: its lists are in their order, no name comes twice, and each name stands for
 -- something that there is.
-use Rattle.std.proofs.Common.{◌≡◌, ℕ, List, Option, Some, None, Result, Ok, Err, refl, subst}
+use Rattle.std.proofs.Common.{◌≡◌, ℕ, List, Option, Some, None, Result, Ok, Err, map, refl, subst}
 use Rattle.std.specs.Option.{option_or, option_map_or}
+use Rattle.std.specs.Ordering.{nat_cmp}
 use Rattle.net_base.specs.declared.conf.ConfFault.{ConfFault}
 use Rattle.conf_tree.specs.declared.conf.Conf.{Conf}
 use Rattle.conf_tree.specs.declared.draft.Draft.{Draft}
 use Rattle.conf_tree.specs.declared.draft.StatementLine.{StatementLine}
 use Rattle.conf_tree.specs.Faults.{◌>>=◌}
-use Rattle.conf_tree.specs.Flat.{placed, frame_of, flat}
+use Rattle.conf_tree.specs.Said.{said, prefix_set_of, as_set_of, origin_set_of}
+use Rattle.conf_tree.specs.Flat.{range_cmp, roa_cmp, in_order, placed, frame_of, flat}
 use Rattle.conf_tree.specs.Checks.{missing_global, double_name, double_neighbour, without_as, unknown_name, family_mismatch, first_fault, checked}
 use Rattle.conf_tree.specs.Language.{draft_within, configuration_within}
-use Rattle.conf_check.proofs.Sorted.{frame_sorted}
-use Rattle.conf_kept.specs.Settled.{IsSettled}
+use Rattle.conf_tree.proofs.Sorted.{sets_sorted}
+use Rattle.conf_tree.specs.Settled.{IsSettled}
 use Rattle.conf_sound.proofs.Lists.{or_none}
 use Rattle.conf_sound.proofs.StatementForms.{Gives}
 use Rattle.conf_sound.proofs.SettledLists.{prefix_entries_sorted, as_entries_sorted, origin_entries_sorted, roas_sorted, networks_sorted}
@@ -42,9 +44,9 @@ unfolding flat frame_of
 flat_settled lines h = record {
   ribs = ribs_distinct lines h.names;
   tables = tables_distinct lines h.names;
-  prefix_sets = (frame_sorted lines).prefix_sets;
-  as_sets = (frame_sorted lines).as_sets;
-  origin_sets = (frame_sorted lines).origin_sets;
+  prefix_sets = sets_sorted (λ s. s.name) (λ set. record { name = set.0; entries = set.1 }) (λ e. refl) (map (λ set. (set.0, in_order range_cmp set.1)) (said prefix_set_of lines));
+  as_sets = sets_sorted (λ s. s.name) (λ set. record { name = set.0; numbers = set.1 }) (λ e. refl) (map (λ set. (set.0, in_order nat_cmp set.1)) (said as_set_of lines));
+  origin_sets = sets_sorted (λ s. s.name) (λ set. record { name = set.0; entries = set.1 }) (λ e. refl) (map (λ set. (set.0, in_order roa_cmp set.1)) (said origin_set_of lines));
   prefix_entries = prefix_entries_sorted lines;
   as_entries = as_entries_sorted lines;
   origin_entries = origin_entries_sorted lines;

@@ -11,7 +11,7 @@ use Rattle.std.specs.declared.cmp.Ordering.TheVariants.{Less, Equal, Greater}
 use Rattle.std.specs.Ordering.{match_ordering, is_eq, eq_by_cmp, on}
 use Rattle.std.specs.Cmp.{IsTotalOrder, eq_by_cmp_equiv}
 use Rattle.conf_tree.specs.Flat.{with_entry, by_key}
-use Rattle.conf_kept.specs.Readable.{Each}
+use Rattle.conf_tree.specs.Readable.{Each}
 use Rattle.conf_sound.proofs.Lists.{IsEntry, insert_entry_form}
 
 any_of_three : (a b c : Bool) → (a || (b || c)) ≡ (b || (a || c))

@@ -18,8 +18,9 @@ use Rattle.conf_tree.specs.declared.sets.OriginSetConf.{OriginSetConf}
 use Rattle.conf_tree.specs.declared.sets.PrefixSetConf.{PrefixSetConf}
 use Rattle.conf_tree.specs.Said.{said, prefix_set_of, as_set_of, origin_set_of, roas_of, network_of}
 use Rattle.conf_tree.specs.Flat.{text_cmp, range_cmp, roa_cmp, in_order, by_key, prefix_sets_of, as_sets_of, origin_sets_of, roas_said, networks_of}
-use Rattle.conf_check.proofs.Sorted.{above_first, all_sorted, made_sorted}
-use Rattle.conf_kept.specs.Readable.{Each}
+use Rattle.conf_tree.proofs.InOrder.{above_first}
+use Rattle.conf_tree.proofs.Sorted.{all_sorted, made_sorted}
+use Rattle.conf_tree.specs.Readable.{Each}
 use Rattle.conf_sound.proofs.Lists.{each_map, IsEntry, by_key_form}
 
 -- ---- values in order

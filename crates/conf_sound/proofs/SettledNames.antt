@@ -13,7 +13,7 @@ use Rattle.net_base.specs.declared.conf.ConfKind.TheVariants.{DoubleName}
 use Rattle.conf_tree.specs.Said.{said, rib_of}
 use Rattle.conf_tree.specs.Flat.{loc_rib}
 use Rattle.conf_tree.specs.Checks.{double_after, first_double, first_line, named, rib_name_of, rib_table_of, prefix_set_name_of, as_set_name_of, origin_set_name_of, group_name_of, double_of, double_rib, double_table, double_name, fault_at}
-use Rattle.conf_kept.specs.Readable.{Each}
+use Rattle.conf_tree.specs.Readable.{Each}
 use Rattle.conf_sound.proofs.Lists.{found_none, map_none}
 
 -- neither of two is true

@@ -26,10 +26,10 @@ use Rattle.conf_tree.specs.Said.{local_address_of}
 use Rattle.conf_tree.specs.Flat.{Placed, placed_in, placed, taken, neighbour_of, neighbours_of, by_key}
 use Rattle.conf_tree.specs.Checks.{first_double, same_addr, double_neighbour, fault_at, is_mismatch, family_mismatch, named_if_full, full_group, groups_of}
 use Rattle.conf_tree.specs.Canonical.{is_of_group}
-use Rattle.conf_check.proofs.Orders.{derived_addr_order, addr_same}
-use Rattle.conf_check.proofs.Sorted.{all_sorted}
-use Rattle.conf_kept.specs.Readable.{Each, IfThere}
-use Rattle.conf_kept.specs.Settled.{HasOneFamily}
+use Rattle.conf_tree.proofs.Orders.{derived_addr_order, addr_same}
+use Rattle.conf_tree.proofs.Sorted.{all_sorted}
+use Rattle.conf_tree.specs.Readable.{Each, IfThere}
+use Rattle.conf_tree.specs.Settled.{HasOneFamily}
 use Rattle.conf_sound.proofs.Lists.{each_map, IsEntry, by_key_form, map_none, find_none}
 use Rattle.conf_sound.proofs.SettledNames.{distinct_names}
 use Rattle.conf_sound.proofs.SettledKeys.{any_by_key, by_key_has_key, values_sorted}

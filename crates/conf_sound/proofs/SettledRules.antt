@@ -24,8 +24,8 @@ use Rattle.conf_tree.specs.declared.sets.SetKind.TheVariants as kinds
 use Rattle.conf_tree.specs.Said.{said, rule_of}
 use Rattle.conf_tree.specs.Flat.{below, place_of, set_id, prefix_set_id, as_set_id, origin_set_id, placed, frame_of, ways, choices, flat_conditions, rule_with, flat_rules, rules_of, flat}
 use Rattle.conf_tree.specs.Checks.{double_neighbour, fault_at, groups_of, is_unknown_rib, is_unknown_peer, is_unknown_set, has_unknown, is_unknown_rule, unknown_neighbour, unknown_rule, unknown_name}
-use Rattle.conf_kept.specs.Readable.{Each, IfThere}
-use Rattle.conf_kept.specs.Settled.{IsKnownPeer, IsKnownSet, IsKnownCondition, IsKnownRule}
+use Rattle.conf_tree.specs.Readable.{Each, IfThere}
+use Rattle.conf_tree.specs.Settled.{IsKnownPeer, IsKnownSet, IsKnownCondition, IsKnownRule}
 use Rattle.conf_sound.proofs.Lists.{each_map, each_filter_map, each_flat_map, then_form, map_form, AreChosen, choices_form, map_none, find_none}
 use Rattle.conf_sound.proofs.FlatForms.{below_length}
 use Rattle.conf_sound.proofs.SettledNames.{neither, no_line}

@@ -6,7 +6,7 @@ use Rattle.std.specs.declared.cmp.Ordering.TheVariants.{Less, Equal, Greater}
 use Rattle.std.specs.BTreeMap.{insert_entry}
 use Rattle.std.specs.BTreeSet.{insert_key}
 use Rattle.conf_tree.specs.Flat.{in_order, with_entry, by_key}
-use Rattle.conf_kept.specs.Readable.{total}
+use Rattle.conf_tree.specs.Readable.{total}
 use Rattle.conf_sound.proofs.Totals.{total_ones}
 
 module _ {A : Type 0} (cmp : A → A → Ordering) where

@@ -9,8 +9,8 @@ use Rattle.net_base.specs.declared.conf.ConfKind.TheVariants.{BadByte, OpenQuote
 use Rattle.conf_tree.specs.declared.token.TokenKind.TheVariants.{Quoted, LineEnd}
 use Rattle.conf_tree.specs.Joined.{Seen, is_lf}
 use Rattle.conf_tree.specs.Cuts.{Rules, byte_is, front_is, is_blank, is_printable, is_equals, is_mark, is_compare, is_quote, is_hash, mark_size, is_comment_byte, is_word_byte, in_blanks, in_comment, in_word, in_quotes, run, behind, bytes_of, token_at, fault_at, Cut, closed_by, closed, quoted_cut, mark_cut, word_cut, cut_by, cut_at, behind_comment, behind_blanks, first_cut_at, first_cut}
-use Rattle.conf_kept.specs.Readable.{can_be_quoted}
-use Rattle.conf_kept.proofs.Both.{and_first, and_second}
+use Rattle.conf_tree.specs.Readable.{can_be_quoted}
+use Rattle.conf_tree.proofs.Both.{and_first, and_second}
 use Rattle.conf_sound.proofs.Characters.{is_ascii, IsOpen, IsSound, IsBoth, still_open}
 use Rattle.conf_sound.proofs.CutForms.{plain_good, CutsWell, cut_ok, cut_err, cut_either, word_cut_form, text_end_form, mark_cut_form}
 

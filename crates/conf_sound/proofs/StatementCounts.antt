@@ -9,7 +9,7 @@ use Rattle.conf_tree.specs.Checks.{group_name_of}
 use Rattle.conf_tree.specs.Flat.{Placed, placed_in}
 use Rattle.conf_tree.specs.RuleReading.{flat_rules_of}
 use Rattle.conf_tree.specs.StatementReading.{Room, room_behind}
-use Rattle.conf_kept.specs.Readable.{total}
+use Rattle.conf_tree.specs.Readable.{total}
 use Rattle.conf_sound.specs.InRoom.{Fits, AllFit}
 use Rattle.conf_sound.proofs.Totals.{there}
 use Rattle.conf_sound.proofs.ChoiceSizes.{length_mapped}

@@ -14,7 +14,7 @@ use Rattle.conf_tree.specs.declared.draft.Draft.{Draft}
 use Rattle.conf_tree.specs.Faults.{◌>>=◌}
 use Rattle.conf_tree.specs.Reading.{Reading, fails, behind, unless_full}
 use Rattle.conf_tree.specs.StatementReading.{Room, all_room, room_behind, as_statement_at, router_id_at, hold_min_statement_at, hold_statement_at, any_hold_statement_at, fib_update_at, qualify_word_at, qualify_at, compare_word_at, med_compare_at, rib_at, rde_at, socket_at, listen_at, prefix_entry_at, number_entry_at, roa_entry_at, prefix_set_at, as_set_at, origin_set_at, roa_set_at, network_body_at, network_at, neighbour_statement_at, group_statement_at, rule_statement_at, rule_word_at, peer_word_at, set_word_at, engine_word_at, statement_at, statement_line_at, after_empty_lines, statements_at, draft_of}
-use Rattle.conf_kept.specs.Readable.{IsRange, IsRoa, IsAs}
+use Rattle.conf_tree.specs.Readable.{IsRange, IsRoa, IsAs}
 use Rattle.conf_sound.specs.InForm.{IsStatement, AreStatements}
 use Rattle.conf_sound.specs.InRoom.{Fits, AllFit}
 use Rattle.conf_sound.proofs.Finds.{AreGood, Finds, ok, err, bind, bind_rest, either, good_behind, reading}

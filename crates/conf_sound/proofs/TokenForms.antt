@@ -12,10 +12,10 @@ use Rattle.conf_tree.specs.Faults.{◌>>=◌}
 use Rattle.conf_tree.specs.Kinds.{is_word, is_quoted}
 use Rattle.conf_tree.specs.Macros.{Macros, no_macros, with_macro, followed, Expanded, most_replaced, text_size, moved, given, given_for, asked, unchanged, replaced, expanded, quoted_value, value_of, begins_definition, defined}
 use Rattle.conf_tree.specs.Tokens.{LineRead, line_with, line_read, lines_in, tokens}
-use Rattle.conf_kept.specs.Readable.{IfThere}
+use Rattle.conf_tree.specs.Readable.{IfThere}
 use Rattle.conf_sound.proofs.Finds.{IsGood, AreGood}
 use Rattle.conf_sound.proofs.Lists.{each_map}
-use Rattle.conf_kept.proofs.Each.{each_append}
+use Rattle.conf_tree.proofs.Each.{each_append}
 use Rattle.conf_sound.proofs.ReadingForms.{good_drop}
 use Rattle.conf_sound.proofs.StatementForms.{Gives}
 use Rattle.conf_sound.proofs.CutForms.{plain_good, CutsWell, IsLine, first_line_form, split_form}

@@ -3,7 +3,7 @@ use Rattle.std.proofs.Common.{◌≡◌, ℕ, ◌+◌, ◌*◌, ◌≤◌, Bool,
 use Rattle.std.specs.Prelude.{filter, filter_map}
 use Rattle.std.specs.List.{cons_option}
 use Rattle.std.proofs.Math.Nat.{mul-add}
-use Rattle.conf_kept.specs.Readable.{Each, total}
+use Rattle.conf_tree.specs.Readable.{Each, total}
 
 -- 1 where a test holds
 abbrev pub one : Bool → ℕ

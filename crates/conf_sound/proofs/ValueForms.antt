@@ -21,8 +21,8 @@ use Rattle.conf_tree.specs.Kinds.{is_quoted}
 use Rattle.conf_tree.specs.Names.{is_name_byte, is_name}
 use Rattle.conf_tree.specs.Reading.{line_of, behind, text_of, word_of, word_is}
 use Rattle.conf_tree.specs.Values.{within, in_range, word_text, before, past, number_at, as_number_at, hold_at, yes_no_at, spelled, address_of, address_at, if_v4, v4_at, prefix_of_word, prefix_at, range, width, bound_at, both_bounds, glued_bounds_at, bounds_at, at_least_at, at_most_at, prefixlen_at, lengths_at, is_quoted_group_name, of_length, if_passes, or_else, most_name_bytes, most_quoted_bytes, name_at, group_name_at, quoted_at, part_in, pattern_of, pair_of, two_parts, triple_of, well_known, named_community, unnamed_community_at, or_unnamed, community_at, large_community_at, number_or_zero, one_community}
-use Rattle.conf_kept.specs.Readable.{IfThere, IsName, can_be_quoted, IsQuotedText, IsGroupName, IsWithin, IsHold, IsPart, IsPattern, IsLargePattern, IsLength, IsRange}
-use Rattle.conf_kept.proofs.Both.{and_first, and_second}
+use Rattle.conf_tree.specs.Readable.{IfThere, IsName, can_be_quoted, IsQuotedText, IsGroupName, IsWithin, IsHold, IsPart, IsPattern, IsLargePattern, IsLength, IsRange}
+use Rattle.conf_tree.proofs.Both.{and_first, and_second}
 use Rattle.conf_sound.proofs.Finds.{AreGood, Finds, ok, err, bind, either, wider, good_behind, chosen, anything, reading}
 
 -- ---- numbers

@@ -7,7 +7,7 @@ use Rattle.conf_tree.specs.Tokens.{tokens}
 use Rattle.conf_tree.specs.StatementReading.{draft_of}
 use Rattle.conf_tree.specs.Checks.{checked}
 use Rattle.conf_tree.specs.Language.{draft_within, configuration_within}
-use Rattle.conf_kept.specs.Readable.{IsReadable, IsWithinLimits}
+use Rattle.conf_tree.specs.Readable.{IsReadable, IsWithinLimits}
 use Rattle.conf_sound.proofs.Finds.{AreGood}
 use Rattle.conf_sound.proofs.StatementForms.{Gives, IsDraft, draft_form}
 use Rattle.conf_sound.proofs.TokenForms.{tokens_form}

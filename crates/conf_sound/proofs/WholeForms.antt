@@ -16,10 +16,10 @@ use Rattle.conf_tree.specs.Said.{last_said, as_of, router_id_of, remote_as_of}
 use Rattle.conf_tree.specs.Flat.{Placed, placed, taken, frame_of, flat, neighbours_of, rules_of}
 use Rattle.conf_tree.specs.Checks.{fault_at, missing_global, double_name, double_neighbour, without_as, unknown_name, family_mismatch, first_fault, checked}
 use Rattle.conf_tree.specs.Canonical.{prefix_set_name, as_set_name, origin_set_name, rib_name}
-use Rattle.conf_kept.specs.Readable.{Each, IsName, IsAs, IsNeighbour, IsCondition, IsRuleRib, IsRule, IsReadable}
+use Rattle.conf_tree.specs.Readable.{Each, IsName, IsAs, IsNeighbour, IsCondition, IsRuleRib, IsRule, IsReadable}
 use Rattle.conf_sound.specs.InForm.{AreStatements}
 use Rattle.conf_sound.proofs.Lists.{unwrap_some, find_none, or_none, map_none}
-use Rattle.conf_kept.proofs.Each.{each_both}
+use Rattle.conf_tree.proofs.Each.{each_both}
 use Rattle.conf_sound.proofs.StatementForms.{Gives, IsDraft}
 use Rattle.conf_sound.proofs.FlatForms.{last_said_form, as_given, IsFrame, frame_form, IsPlaced, placed_form, neighbours_form, rules_form}
 

@@ -15,7 +15,7 @@ use Rattle.conf_tree.specs.declared.draft.StatementLine.{StatementLine}
 use Rattle.conf_tree.specs.declared.rule.Direction.{Direction}
 use Rattle.conf_tree.specs.declared.rule.Direction.TheVariants.{From, To}
 use Rattle.conf_tree.specs.RuleReading.{most_conditions, place_of}
-use Rattle.conf_kept.specs.Readable.{Each, IfThere, IsName, IsQuotedText, IsGroupName, IsWithin, IsHold, IsPattern, IsLargePattern, IsSet, IsListen, IsRange, IsRoa, IsAs, IsPeer, least_as}
+use Rattle.conf_tree.specs.Readable.{Each, IfThere, IsName, IsQuotedText, IsGroupName, IsWithin, IsHold, IsPattern, IsLargePattern, IsSet, IsListen, IsRange, IsRoa, IsAs, IsPeer, least_as}
 
 -- ---- neighbours
 

@@ -1,2 +1,3 @@
 pub mod InForm
 pub mod InRoom
+pub mod Numbers

@@ -1,4 +1,5 @@
 pub mod Canonical
+pub mod CanonicalDraft
 pub mod Checks
 pub mod Cuts
 pub mod Empty
@@ -13,9 +14,11 @@ pub mod Macros
 pub mod Membership
 pub mod Names
 pub mod NeighbourReading
+pub mod Readable
 pub mod Reading
 pub mod RuleReading
 pub mod Said
+pub mod Settled
 pub mod StatementReading
 pub mod Tokens
 pub mod Values

@@ -19,6 +19,7 @@ use Rattle.conf_tree.specs.declared.draft.ConditionBlock.TheVariants as conditio
 use Rattle.conf_tree.specs.declared.draft.RuleBlock.{RuleBlock}
 use Rattle.conf_tree.specs.declared.draft.SetPlace.{SetPlace}
 use Rattle.conf_tree.specs.declared.draft.SetPlace.TheVariants as places
+use Rattle.conf_tree.specs.declared.room.Lists.{Lists as lists_left}
 use Rattle.conf_tree.specs.Faults.{◌>>=◌}
 use Rattle.conf_tree.specs.Reading.{Reading, Member, fails, unexpected, behind, word_is, word_in, mark_is, ends_line, keyword_at, unless_full, full_list_at, one_or_list_at}
 use Rattle.conf_tree.specs.Values.{number_at, as_number_at, address_of, address_at, prefix_at, lengths_at, name_at, group_name_at, community_at, large_community_at}
@@ -91,11 +92,9 @@ rule_number_at low full tokens = counted_number_at low full counted.Rules tokens
 
 -- ---- conditions
 
--- What the lists of a rule leave to the next one: how many members it may have, and which kinds of list stand already.
-pub record Lists : Type 0 where
-  pub room : ℕ
-  pub prefixes : Bool
-  pub numbers : Bool
+-- what the lists of a rule leave to the next one
+abbrev pub Lists : Type 0
+Lists = lists_left
 
 abbrev pub with_prefixes : Lists → List PrefixRange → Lists
 with_prefixes lists members = record { room = lists.room / length members; prefixes = true; numbers = lists.numbers }

@@ -15,6 +15,7 @@ use Rattle.conf_tree.specs.declared.draft.Statement.{Statement}
 use Rattle.conf_tree.specs.declared.draft.Statement.TheVariants as says
 use Rattle.conf_tree.specs.declared.draft.StatementLine.{StatementLine}
 use Rattle.conf_tree.specs.declared.draft.Draft.{Draft}
+use Rattle.conf_tree.specs.declared.room.Room.{Room as room_left}
 use Rattle.conf_tree.specs.Faults.{◌>>=◌}
 use Rattle.conf_tree.specs.Kinds.{is_line_end}
 use Rattle.conf_tree.specs.Reading.{Reading, Member, line_of, fails, unexpected, behind, word_is, word_in, keyword_at, mark_at, line_end_at, list_at, unless_full}
@@ -23,15 +24,9 @@ use Rattle.conf_tree.specs.ItemReading.{optional_set_at}
 use Rattle.conf_tree.specs.RuleReading.{ranged_at, counted_number_at, rule_at, flat_rules_of}
 use Rattle.conf_tree.specs.NeighbourReading.{neighbour_at, group_at}
 
--- How many more there may be of what is counted.
-pub record Room : Type 0 where
-  pub neighbours : ℕ
-  pub groups : ℕ
-  pub ribs : ℕ
-  pub rules : ℕ
-  pub networks : ℕ
-  pub entries : ℕ
-  pub listens : ℕ
+-- how many more there may be of what is counted
+abbrev pub Room : Type 0
+Room = room_left
 
 -- the most of each in one configuration; Loc-RIB is the sixteenth RIB
 abbrev pub all_room : Room

@@ -5,6 +5,7 @@ mod conf;
 mod draft;
 mod members;
 mod neighbour;
+mod room;
 mod rule;
 mod sets;
 mod text;
@@ -18,6 +19,7 @@ pub use draft::{
 };
 pub use members::Members;
 pub use neighbour::{Neighbour, NeighbourList};
+pub use room::{Lists, Room};
 pub use rule::{
     Action, Change, CommunityPattern, Condition, ConditionList, Direction, Item, ItemList,
     LargePattern, NextHop, PathPart, Peer, RouteOrigin, Rule, RuleList,

@@ -3,7 +3,7 @@ use Rattle.std.specs.Prelude.{◌≡◌, ℕ, ◌+◌, ◌-◌, ◌^◌, Bool, f
 use Rattle.core_msgs.specs.EventText.{event_text}
 use Rattle.core_msgs.specs.declared.event.Event.{Event}
 use Rattle.core_msgs.specs.declared.answer.Answer.{Answer}
-use Rattle.core_msgs.specs.declared.answer.Part.TheVariants.{Reload}
+use Rattle.core_msgs.specs.declared.parts.Part.TheVariants.{Reload}
 use Rattle.run_record.specs.Run.{History}
 use Rattle.run_record.specs.Answers.{Answers}
 use Rattle.cores_link.specs.declared.router.Router.{Router}

@@ -5,9 +5,9 @@ ghost use Rattle.run_record.specs.Answers.{only, refused, reload_reports, are_sh
 use crate::reader;
 use attr_model::{RouteList, RouteRow};
 use conf_tree::Conf;
-use core_msgs::{Answer, Event, Line, LineList, Part, Refusal, Row, WordList};
+use core_msgs::{Answer, Event, Line, LineList, PartName, Refusal, Row, WordList};
 use net_base::{Bytes, ConfError, Items, NoMemory};
-use route_world::loc_rib;
+use route_world::network_rows;
 use std::alloc::Global;
 
 /// The configuration of the last reload that was accepted.
@@ -24,7 +24,7 @@ impl Accepted {
     ghost use Rattle.cores_link.specs.Generations.{accepted_generation};
     ghost use Rattle.cores_link.specs.Standing.{AcceptedBy, Follows, step};
     ghost use Rattle.core_msgs.specs.declared.event.Event.TheVariants.{Reload, Settle, Ctl};
-    ghost use Rattle.run_record.specs.Run.{History, under_way, world};
+    ghost use Rattle.run_record.specs.Run.{History, under_way, conf};
 
     /// The empty configuration, with nothing under way.
     pub fn new(alloc: Global) -> Self
@@ -59,7 +59,7 @@ impl Accepted {
             Event::Reload(text) => Ok(self.reload(alloc, text)),
             Event::Settle => self.settle(alloc),
             Event::Ctl(words) => self.control(alloc, words),
-            Event::NotBuilt(_) => Ok(refused(alloc, Refusal::NotBuilt)),
+            _ => Ok(refused(alloc, Refusal::NotBuilt)),
         }
     }
 
@@ -106,12 +106,12 @@ impl Accepted {
     }
 
     fn show_rib(&self, alloc: Global) -> Result<Answer, NoMemory>
-        ensures { IfOk result (λ answer. (h : History) → AcceptedBy self.now h → answer ≡ show_rib_answer (under_way h) (world h)) }
+        ensures { IfOk result (λ answer. (h : History) → AcceptedBy self.now h → answer ≡ show_rib_answer (under_way h) (conf h)) }
     {
         if self.under_way {
-            return Ok(only(alloc, Line::Pending(Part::Reload)));
+            return Ok(only(alloc, Line::Pending(PartName::Reload)));
         }
-        let routes = loc_rib(alloc, &self.conf)?;
+        let routes = network_rows(alloc, &self.conf)?;
         Ok(Answer {
             lines: route_lines(alloc, routes)?,
             last: Line::Ok,

@@ -2,18 +2,13 @@
 
 ghost use Rattle.std.specs.Prelude.{◌≡◌, not, find, option_map};
 ghost use Rattle.conf_tree.specs.Gives.{Gives};
-ghost use Rattle.conf_tree.specs.Language.{draft_within};
 ghost use Rattle.run_record.specs.Taken.{is_built, first_not_built, unless_not_built, taken_of, taken};
 
 use conf_check::check;
-use conf_lex::tokens;
-use conf_parser::parse;
 use conf_tree::{Conf, Draft, Statement, StatementLine};
 use net_base::{ConfError, ConfFault, ConfKind};
+use reload_stage::{TEXT_LIMIT, read_draft};
 use std::alloc::Global;
-
-/// The most bytes of a text.
-const MOST_BYTES: usize = 1_048_576;
 
 /// Reads the text of a `reload`.
 ///
@@ -23,17 +18,8 @@ const MOST_BYTES: usize = 1_048_576;
 pub fn read(alloc: Global, text: &[u8]) -> Result<Conf, ConfError>
     ensures { Gives (λ conf. conf) result (taken text.now) }
 {
-    let draft = draft_of(alloc, text)?;
+    let draft = read_draft(alloc, text, TEXT_LIMIT)?;
     taken_of(alloc, draft)
-}
-
-/// The draft that a text writes.
-#[tactic(auto, unfolding(conf_tree::specs::Language::draft_within))]
-fn draft_of(alloc: Global, text: &[u8]) -> Result<Draft, ConfError>
-    ensures { Gives (λ draft. draft) result (draft_within 1048576 text.now) }
-{
-    let tokens = tokens(alloc, text, MOST_BYTES)?;
-    parse(alloc, &tokens)
 }
 
 /// The configuration that a draft brings.

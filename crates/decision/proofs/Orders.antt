@@ -71,11 +71,11 @@ by_peer = record {
 
 pub order_of : (p : Point) → IsOrder (beats p)
 order_of point.LocalPref = by_greater local_pref_of
-order_of point.PathLength = by_less (λ c. path_length c.attrs.path)
-order_of point.Origin = by_less (λ c. c.attrs.origin)
+order_of point.PathLength = by_less (λ c. path_length c.attrs.attrs.path)
+order_of point.Origin = by_less (λ c. c.attrs.attrs.origin)
 order_of point.Med = by_less med_of
 order_of point.Kind = by_less (λ c. kind_of c.from)
-order_of point.Weight = by_greater (λ c. c.attrs.weight)
+order_of point.Weight = by_greater (λ c. c.attrs.attrs.weight)
 order_of point.BgpId = by_less (λ c. c.bgp_id)
 order_of point.Peer = by_peer
 order_of point.NeighbourAs = by_less neighbour_as

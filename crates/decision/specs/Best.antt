@@ -19,15 +19,15 @@ first_number path = slice_get (flat_map numbers_of path) 0
 
 -- the neighbour AS of an empty path is the own one
 abbrev pub neighbour_as : Candidate → ℕ
-neighbour_as candidate = unwrap_or (first_number candidate.attrs.path) candidate.own_as
+neighbour_as candidate = unwrap_or (first_number candidate.attrs.attrs.path) candidate.own_as
 
 -- an absent LOCAL_PREF counts 100
 abbrev pub local_pref_of : Candidate → ℕ
-local_pref_of candidate = unwrap_or candidate.attrs.local_pref 100
+local_pref_of candidate = unwrap_or candidate.attrs.attrs.local_pref 100
 
 -- an absent MULTI_EXIT_DISC counts 0
 abbrev pub med_of : Candidate → ℕ
-med_of candidate = unwrap_or candidate.attrs.med 0
+med_of candidate = unwrap_or candidate.attrs.attrs.med 0
 
 -- local before external before internal
 abbrev pub kind_of : Origin → ℕ
@@ -60,10 +60,10 @@ abbrev pub is_preferred : Candidate → Candidate → Bool
 is_preferred one other = nat_lt (local_pref_of other) (local_pref_of one)
 
 abbrev pub has_shorter_path : Candidate → Candidate → Bool
-has_shorter_path one other = nat_lt (path_length one.attrs.path) (path_length other.attrs.path)
+has_shorter_path one other = nat_lt (path_length one.attrs.attrs.path) (path_length other.attrs.attrs.path)
 
 abbrev pub has_lower_origin : Candidate → Candidate → Bool
-has_lower_origin one other = nat_lt one.attrs.origin other.attrs.origin
+has_lower_origin one other = nat_lt one.attrs.attrs.origin other.attrs.attrs.origin
 
 abbrev pub has_lower_med : Candidate → Candidate → Bool
 has_lower_med one other = nat_lt (med_of one) (med_of other)
@@ -77,7 +77,7 @@ abbrev pub has_nearer_origin : Candidate → Candidate → Bool
 has_nearer_origin one other = nat_lt (kind_of one.from) (kind_of other.from)
 
 abbrev pub is_heavier : Candidate → Candidate → Bool
-is_heavier one other = nat_lt other.attrs.weight one.attrs.weight
+is_heavier one other = nat_lt other.attrs.attrs.weight one.attrs.attrs.weight
 
 abbrev pub has_lower_id : Candidate → Candidate → Bool
 has_lower_id one other = nat_lt one.bgp_id other.bgp_id

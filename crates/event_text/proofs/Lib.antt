@@ -1,1 +1,3 @@
-pub mod Words
+mod Splits
+mod Below
+mod Behind

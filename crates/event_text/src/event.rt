@@ -1,10 +1,11 @@
-ghost use Rattle.event_text.specs.Held.{held_event, ReadsEvent};
-ghost use Rattle.std.specs.Prelude.{◌≤◌, MatchOption, IfSome, false, None, if◌then◌else◌, ◌≡◌, ◌+◌, ◌<◌, ◌^◌, [], map, drop, length, ◌++◌, ◌∷◌, Some, IfOk, OnOk, OnErr, IsTrue, ◌↔◌, Option, option_map};
-ghost use Rattle.std.specs.Option.{option_map_or};
-ghost use Rattle.std.specs.List.{slice_split, position_or_len};
+ghost use Rattle.std.specs.Prelude.{◌≡◌, ◌+◌, ◌<◌, ◌^◌, [], drop, false, OnOk, IfOk, Some, None, if◌then◌else◌, bytes_eq, codes};
+ghost use Rattle.std.specs.List.{slice_split};
 ghost use Rattle.std.specs.Str.{is_utf8};
-ghost use Rattle.event_text.specs.Grammar.{is_blank, first_word, is_unbuilt, is_peer_event, is_step_event, is_outer_event, control_words, line_event, is_reload, ends_text, with_line, is_skipped};
+ghost use Rattle.event_text.specs.Held.{held_event, ReadsEvent};
+ghost use Rattle.event_text.specs.Cursor.{Reads, Gives};
+ghost use Rattle.event_text.specs.Grammar.{is_blank, first_word, control_words, words_of, event_behind, event_at, whole, line_event, is_reload, is_skipped};
 
+use crate::words::{Kind, Unread, Words, split_word, word_length};
 use core_msgs::{Event, WordList};
 use net_base::{Bytes, Items, NoMemory};
 use std::alloc::Global;
@@ -115,24 +116,81 @@ pub fn read_event(alloc: Global, lines: &LinesHeld) -> Result<Event, EventFault>
         }
         return Ok(Event::Reload(Items::from_slice(alloc, lines.text.as_slice())?));
     }
-    match line_event(alloc, lines.head.as_slice())? {
-        Some(event) => Ok(event),
-        None => Err(EventFault::BadEvent(lines.first)),
+    match read_line(alloc, lines.head.as_slice()) {
+        Ok(event) => Ok(event),
+        Err(Unread::Outside) => Err(EventFault::BadEvent(lines.first)),
+        Err(Unread::NoMemory) => Err(EventFault::NoMemory),
     }
 }
 
-fn line_event(alloc: Global, line: &[u8]) -> Result<Option<Event>, NoMemory>
-    ensures { IfOk result (λ event. event ≡ line_event line.now) }
+/// Reads the event of one line that is no `reload`.
+fn read_line(alloc: Global, line: &[u8]) -> Result<Event, Unread>
+    ensures { Gives (line_event line.now) result }
 {
-    let word = first_word(line);
-    if line == b"settle".as_slice() {
-        Ok(Some(Event::Settle))
-    } else if word == b"ctl".as_slice() {
-        control_event(alloc, line)
-    } else if is_unbuilt(word) {
-        Ok(Some(Event::NotBuilt(Items::from_slice(alloc, line)?)))
+    if first_word(line) == b"ctl".as_slice() {
+        read_control(alloc, line)
     } else {
-        Ok(None)
+        read_words(alloc, line)
+    }
+}
+
+/// Reads the event of a line of words.
+#[tactic(auto, using(crate::proofs::Splits::words_left, crate::proofs::Splits::no_word_left))]
+fn read_words(alloc: Global, line: &[u8]) -> Result<Event, Unread>
+    ensures { Gives (whole (event_at (words_of line.now))) result }
+{
+    let mut words = Words::new(line);
+    let event = event_of_words(alloc, &mut words)?;
+    words.end()?;
+    Ok(event)
+}
+
+fn event_of_words(alloc: Global, words: &mut Words) -> Result<Event, Unread>
+    ensures { Reads event_at words.old words.new result }
+{
+    let kind = words.kind()?;
+    event_behind(alloc, kind, words)
+}
+
+/// Reads the words behind the first of an event of this kind.
+#[tactic(auto, unfolding(crate::specs::Grammar::event_behind))]
+fn event_behind(alloc: Global, kind: Kind, words: &mut Words) -> Result<Event, Unread>
+    ensures { Reads (event_behind kind) words.old words.new result }
+{
+    match kind {
+        Kind::Time => Ok(Event::Time(words.moment()?)),
+        Kind::Open => {
+            let peer = words.peer()?;
+            Ok(Event::Open(peer, words.way()?))
+        }
+        Kind::Bytes => {
+            let peer = words.peer()?;
+            Ok(Event::Bytes(peer, words.bytes(alloc)?))
+        }
+        Kind::Close => Ok(Event::Close(words.peer()?)),
+        Kind::KernelRoute => {
+            let prefix = words.prefix()?;
+            Ok(Event::KernelRoute(prefix, words.kernel_change()?))
+        }
+        Kind::Deliver => {
+            let link = words.link()?;
+            Ok(Event::Deliver(link, words.count()?))
+        }
+        Kind::Work => Ok(Event::Work(words.count()?)),
+        Kind::Write => {
+            let peer = words.peer()?;
+            Ok(Event::Write(peer, words.count()?))
+        }
+        Kind::Stall => Ok(Event::Stall(words.peer()?)),
+        Kind::Flow => Ok(Event::Flow(words.peer()?)),
+        Kind::Turn => Ok(Event::Turn(words.count()?)),
+        Kind::Settle => Ok(Event::Settle),
+        Kind::Cut => Ok(Event::Cut(words.link()?)),
+        Kind::KernelFail => {
+            let table = words.count()?;
+            Ok(Event::KernelFail(table, words.call()?))
+        }
+        Kind::Stop => Ok(Event::Stop),
     }
 }
 
@@ -142,58 +200,17 @@ fn first_word(line: &[u8]) -> &[u8]
     line.split_at(word_length(line)).0
 }
 
-fn word_length(line: &[u8]) -> usize
-    ensures value { result ≡ position_or_len is_blank line.now }
-    ensures within { result ≤ length line.now }
-{
-    line.iter().take_while(|b| **b != b' ').count()
-}
-
-fn is_unbuilt(word: &[u8]) -> bool
-    ensures { result ≡ is_unbuilt word.now }
-{
-    is_peer_event(word) || is_step_event(word) || is_outer_event(word)
-}
-
-fn is_peer_event(word: &[u8]) -> bool
-    ensures { result ≡ is_peer_event word.now }
-{
-    word == b"open".as_slice()
-        || word == b"bytes".as_slice()
-        || word == b"close".as_slice()
-        || word == b"write".as_slice()
-        || word == b"stall".as_slice()
-        || word == b"flow".as_slice()
-}
-
-fn is_step_event(word: &[u8]) -> bool
-    ensures { result ≡ is_step_event word.now }
-{
-    word == b"deliver".as_slice() || word == b"work".as_slice() || word == b"turn".as_slice()
-}
-
-fn is_outer_event(word: &[u8]) -> bool
-    ensures { result ≡ is_outer_event word.now }
-{
-    word == b"time".as_slice()
-        || word == b"kroute".as_slice()
-        || word == b"cut".as_slice()
-        || word == b"kfail".as_slice()
-        || word == b"stop".as_slice()
-}
-
 /// A control command, whose line has to be UTF-8.
-fn control_event(alloc: Global, line: &[u8]) -> Result<Option<Event>, NoMemory>
-    ensures { IfOk result (λ event. event ≡ (if is_utf8 line.now then Some (Event.Ctl (control_words (drop 4 line.now))) else None)) }
+fn read_control(alloc: Global, line: &[u8]) -> Result<Event, Unread>
+    ensures { Gives (if is_utf8 line.now then Some (Event.Ctl (control_words (drop 4 line.now))) else None) result }
 {
     if !is_utf8(line) {
-        return Ok(None);
+        return Err(Unread::Outside);
     }
-    let words = control_words(alloc, behind_ctl(line))?;
-    Ok(Some(Event::Ctl(words)))
+    Ok(Event::Ctl(control_words(alloc, behind_ctl(line))?))
 }
 
-#[tactic(auto, using(crate::proofs::Words::utf8_yes, crate::proofs::Words::utf8_no))]
+#[tactic(auto, using(crate::proofs::Splits::utf8_yes, crate::proofs::Splits::utf8_no))]
 fn is_utf8(line: &[u8]) -> bool
     ensures { result ≡ is_utf8 line.now }
 {
@@ -232,18 +249,4 @@ fn split_words(alloc: Global, text: &[u8]) -> Result<WordList, NoMemory>
     }
     words.push(Items::from_slice(alloc, rest)?)?;
     Ok(words)
-}
-
-/// What stands before the first blank and behind it, or None where there is no blank.
-#[tactic(auto, using(crate::proofs::Words::split_none, crate::proofs::Words::split_first))]
-fn split_word(text: &[u8]) -> Option<(&[u8], &[u8])>
-    ensures parts { MatchOption result (slice_split is_blank text.now ≡ text.now ∷ [])
-        (λ found. slice_split is_blank text.now ≡ found.0.now ∷ slice_split is_blank found.1.now) }
-    ensures shorter { IfSome result (λ found. length found.1.now < length text.now) }
-{
-    let length = word_length(text);
-    if length == text.len() {
-        return None;
-    }
-    Some((text.split_at(length).0, text.split_at(length + 1).1))
 }

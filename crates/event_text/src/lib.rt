@@ -3,6 +3,9 @@
 
 mod event;
 mod line;
+mod print;
+mod words;
 
 pub use event::{EventFault, LinesHeld, is_skipped, read_event};
-pub use line::print_answer;
+pub use line::{print_answer, print_line};
+pub use print::print_event;

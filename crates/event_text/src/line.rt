@@ -1,168 +1,180 @@
-ghost use Rattle.std.specs.Prelude.{◌≡◌, ◌++◌, ◌∷◌, [], IfOk, OnOk, string_bytes, codes, decimal, flat_map};
-ghost use Rattle.event_text.specs.Lines.{who_text, origin_text, set_text, segment_text, path_text, attrs_text, route_text, refusal_text, line_text, ended_line, answer_text, flag_text, row_text};
+ghost use Rattle.std.specs.Prelude.{◌≡◌, ◌++◌, IfOk, OnOk, codes, decimal, flat_map};
+ghost use Rattle.hex.specs.Hex.{encode_lower};
+ghost use Rattle.net_base.specs.Addr.{addr_text};
+ghost use Rattle.core_msgs.specs.EventText.{link_word};
+ghost use Rattle.event_text.specs.Lines.{refusal_text, part_text, peers_text, line_text, ended_line, answer_text};
 
-use attr_model::{Attrs, Flag, Path, RouteRow, Segment};
-use core_msgs::{Answer, Line, Part, Refusal, Row};
+use core_msgs::{Answer, Line, LinkName, PartName, Refusal};
 use net_base::{Addr, Bytes, Items, NoMemory};
 use std::alloc::Global;
-use std::fmt::Write;
 
 /// The text of an answer: each of its lines with an LF, the one that ends it last.
 pub fn print_answer(alloc: Global, answer: &Answer) -> Result<Bytes, NoMemory>
     ensures { IfOk result (λ text. text ≡ answer_text answer.now) }
 {
-    let mut text = String::new(alloc);
-    print_lines(&mut text, answer.lines.as_slice())?;
-    print_line(&mut text, &answer.last)?;
-    Ok(Items::from_vec(text.into_bytes()))
+    let mut text = Items::new(alloc);
+    print_lines(alloc, answer.lines.as_slice(), &mut text)?;
+    print_line(alloc, &answer.last, &mut text)?;
+    Ok(text)
 }
 
-fn print_lines(text: &mut String, lines: &[Line]) -> Result<(), NoMemory>
-    ensures { OnOk result (string_bytes text.new ≡ string_bytes text.old ++ flat_map ended_line lines.now) }
+fn print_lines(alloc: Global, lines: &[Line], out: &mut Bytes) -> Result<(), NoMemory>
+    ensures { OnOk result (out.new ≡ out.old ++ flat_map ended_line lines.now) }
 {
     for line in lines {
-        print_line(text, line)?;
+        print_line(alloc, line, out)?;
     }
     Ok(())
 }
 
-fn print_line(text: &mut String, line: &Line) -> Result<(), NoMemory>
-    ensures { OnOk result (string_bytes text.new ≡ string_bytes text.old ++ ended_line line.now) }
+/// Puts a line of an answer and its LF behind some bytes. Where memory is refused, a part of the line may stand there.
+pub fn print_line(alloc: Global, line: &Line, out: &mut Bytes) -> Result<(), NoMemory>
+    ensures { OnOk result (out.new ≡ out.old ++ ended_line line.now) }
+{
+    print_words(alloc, line, out)?;
+    out.push(b'\n')
+}
+
+/// Puts a line behind some bytes, without its LF.
+fn print_words(alloc: Global, line: &Line, out: &mut Bytes) -> Result<(), NoMemory>
+    ensures { OnOk result (out.new ≡ out.old ++ line_text line.now) }
 {
     match line {
-        Line::AppliedSession(generation) => write!(text, "applied s {generation}\n")?,
-        Line::AppliedDecision(generation) => write!(text, "applied r {generation}\n")?,
-        Line::Reloaded(generation) => write!(text, "reloaded {generation}\n")?,
-        Line::Row(Row::Route(route)) => print_route(text, route)?,
-        Line::Ok => write!(text, "ok\n")?,
-        Line::OkGeneration(generation) => write!(text, "ok {generation}\n")?,
-        Line::RefusedText(fault) => write!(text, "refused {fault}\n")?,
-        Line::Refused(why) => print_refusal(text, *why)?,
-        Line::Quiet => write!(text, "quiet\n")?,
-        Line::Pending(Part::Reload) => write!(text, "pending reload\n")?,
+        Line::Up(peer) => write!(out, "up {peer}"),
+        Line::Down(peer, code, sub) => write!(out, "down {peer} {code} {sub}"),
+        Line::DownMaxPrefix { peer, held, most } => {
+            write!(out, "down {peer} 6 1 held {held} max {most}")
+        }
+        Line::DownLost(peer) => write!(out, "down {peer} lost"),
+        Line::DownReceived(peer, code, sub) => write!(out, "down {peer} received {code} {sub}"),
+        Line::Sent(peer, bytes) => print_bytes(alloc, "sent ", *peer, bytes, out),
+        Line::Last(peer, bytes) => print_bytes(alloc, "last ", *peer, bytes, out),
+        Line::Connect(peer) => write!(out, "connect {peer}"),
+        Line::AppliedSession(generation) => print_numbered("applied s ", *generation, out),
+        Line::AppliedDecision(generation) => print_numbered("applied r ", *generation, out),
+        Line::Reloaded(generation) => print_numbered("reloaded ", *generation, out),
+        Line::KernelLost(table) => print_numbered("kernel lost ", *table, out),
+        Line::Row(row) => row.print(out),
+        Line::Ok => out.extend_from_slice(b"ok"),
+        Line::OkGeneration(generation) => print_numbered("ok ", *generation, out),
+        Line::RefusedText(fault) => write!(out, "refused {fault}"),
+        Line::Refused(why) => print_refused(*why, out),
+        Line::Quiet => out.extend_from_slice(b"quiet"),
+        Line::QuietExcept(peers) => print_quiet_except(peers.as_slice(), out),
+        Line::Pending(part) => print_pending(part, out),
+    }
+}
+
+/// Puts a word and a number behind some bytes.
+fn print_numbered(word: &str, number: u32, out: &mut Bytes) -> Result<(), NoMemory>
+    ensures { OnOk result (out.new ≡ out.old ++ (word.now ++ decimal number)) }
+{
+    write!(out, "{word}{number}")
+}
+
+/// Puts a word, the address of a neighbour and bytes behind some bytes.
+fn print_bytes(
+    alloc: Global,
+    word: &str,
+    peer: Addr,
+    bytes: &Bytes,
+    out: &mut Bytes,
+) -> Result<(), NoMemory>
+    ensures { OnOk result (out.new ≡ out.old ++ (word.now ++ (addr_text peer ++ (codes " " ++ encode_lower bytes.now)))) }
+{
+    write!(out, "{word}{peer} ")?;
+    print_hex(alloc, bytes, out)
+}
+
+/// Puts bytes in hexadecimal digits of lower case behind some bytes.
+pub(crate) fn print_hex(alloc: Global, bytes: &Bytes, out: &mut Bytes) -> Result<(), NoMemory>
+    ensures { OnOk result (out.new ≡ out.old ++ encode_lower bytes.now) }
+{
+    let digits = hex::encode(alloc, bytes.as_slice())?;
+    out.extend_from_slice(digits.as_str().as_bytes())
+}
+
+/// Puts `quiet except` and the stalled neighbours behind some bytes.
+fn print_quiet_except(peers: &[Addr], out: &mut Bytes) -> Result<(), NoMemory>
+    ensures { OnOk result (out.new ≡ out.old ++ (codes "quiet except" ++ peers_text peers.now)) }
+{
+    out.extend_from_slice(b"quiet except")?;
+    print_peers(peers, out)
+}
+
+/// Puts addresses behind some bytes, with a blank before each.
+fn print_peers(peers: &[Addr], out: &mut Bytes) -> Result<(), NoMemory>
+    ensures { OnOk result (out.new ≡ out.old ++ peers_text peers.now) }
+{
+    for peer in peers {
+        write!(out, " {peer}")?;
     }
     Ok(())
 }
 
-fn print_refusal(text: &mut String, why: Refusal) -> Result<(), NoMemory>
-    ensures { OnOk result (string_bytes text.new ≡ string_bytes text.old ++ ended_line (Line.Refused why)) }
+/// Puts `refused` and why behind some bytes.
+fn print_refused(why: Refusal, out: &mut Bytes) -> Result<(), NoMemory>
+    ensures { OnOk result (out.new ≡ out.old ++ (codes "refused " ++ refusal_text why)) }
+{
+    out.extend_from_slice(b"refused ")?;
+    print_refusal(why, out)
+}
+
+/// Puts the reason of a refusal behind some bytes.
+fn print_refusal(why: Refusal, out: &mut Bytes) -> Result<(), NoMemory>
+    ensures { OnOk result (out.new ≡ out.old ++ refusal_text why) }
 {
     match why {
-        Refusal::UnderWay(generation) => write!(text, "refused UnderWay {generation}\n"),
-        Refusal::NotBuilt => write!(text, "refused NotBuilt\n"),
-        Refusal::NoMemory => write!(text, "refused NoMemory\n"),
+        Refusal::UnknownNeighbour => out.extend_from_slice(b"UnknownNeighbour"),
+        Refusal::UnknownTable => out.extend_from_slice(b"UnknownTable"),
+        Refusal::UnknownRib => out.extend_from_slice(b"UnknownRib"),
+        Refusal::AdminDown => out.extend_from_slice(b"AdminDown"),
+        Refusal::AlreadyOpen => out.extend_from_slice(b"AlreadyOpen"),
+        Refusal::NoConnection => out.extend_from_slice(b"NoConnection"),
+        Refusal::NoRefresh => out.extend_from_slice(b"NoRefresh"),
+        Refusal::BadWord(position) => write!(out, "BadWord {position}"),
+        Refusal::UnderWay(generation) => write!(out, "UnderWay {generation}"),
+        Refusal::TimeBack(moment) => write!(out, "TimeBack {moment}"),
+        Refusal::NotBuilt => out.extend_from_slice(b"NotBuilt"),
+        Refusal::NoMemory => out.extend_from_slice(b"NoMemory"),
     }
 }
 
-fn print_route(text: &mut String, route: &RouteRow) -> Result<(), NoMemory>
-    ensures { OnOk result (string_bytes text.new ≡ string_bytes text.old ++ ended_line (Line.Row (Row.Route route.now))) }
+/// Puts `pending` and the part that has something to do behind some bytes.
+fn print_pending(part: &PartName, out: &mut Bytes) -> Result<(), NoMemory>
+    ensures { OnOk result (out.new ≡ out.old ++ (codes "pending " ++ part_text part.now)) }
 {
-    write!(text, "{} {} from ", flag_text(route.flag), route.prefix)?;
-    print_who(text, route.who)?;
-    print_attrs(text, &route.attrs)?;
-    print_path(text, &route.attrs.path)?;
-    text.push_str("\n")
+    out.extend_from_slice(b"pending ")?;
+    print_part(part, out)
 }
 
-fn flag_text(flag: Flag) -> &'static str
-    ensures { result.now ≡ flag_text flag }
+/// Puts a part of the speaker behind some bytes.
+fn print_part(part: &PartName, out: &mut Bytes) -> Result<(), NoMemory>
+    ensures { OnOk result (out.new ≡ out.old ++ part_text part.now) }
 {
-    match flag {
-        Flag::Best => ">",
-        Flag::Eligible => "*",
-        Flag::Not => "-",
-        Flag::Held => "=",
+    match part {
+        PartName::Link(link) => write!(out, "link {}", link_word(*link)),
+        PartName::Reload => out.extend_from_slice(b"reload"),
+        PartName::Rib(name) => {
+            out.extend_from_slice(b"rib ")?;
+            out.extend_from_slice(name.as_slice())
+        }
+        PartName::Kernel(table) => write!(out, "kernel {table}"),
+        PartName::Queue(peer) => write!(out, "queue {peer}"),
+        PartName::Outbox(peer) => write!(out, "outbox {peer}"),
     }
 }
 
-fn print_who(text: &mut String, who: Option<Addr>) -> Result<(), NoMemory>
-    ensures { OnOk result (string_bytes text.new ≡ string_bytes text.old ++ who_text who) }
+/// A link by its two ends.
+pub(crate) fn link_word(link: LinkName) -> &'static str
+    ensures { result.now ≡ link_word link }
 {
-    match who {
-        None => text.push_str("local"),
-        Some(address) => write!(text, "{address}"),
+    match link {
+        LinkName::Ps => "ps",
+        LinkName::Sp => "sp",
+        LinkName::Pr => "pr",
+        LinkName::Rp => "rp",
+        LinkName::Sr => "sr",
+        LinkName::Rs => "rs",
     }
-}
-
-fn origin_text(origin: u8) -> &'static str
-    ensures { result.now ≡ origin_text origin }
-{
-    if origin == 0 {
-        "igp"
-    } else if origin == 1 {
-        "egp"
-    } else {
-        "incomplete"
-    }
-}
-
-fn print_attrs(text: &mut String, attrs: &Attrs) -> Result<(), NoMemory>
-    ensures { OnOk result (string_bytes text.new ≡ string_bytes text.old ++ attrs_text attrs.now) }
-{
-    write!(
-        text,
-        " nexthop {} lp {} med {} weight {} origin {} path",
-        attrs.hop,
-        attrs.local_pref.unwrap_or(100),
-        attrs.med.unwrap_or(0),
-        attrs.weight,
-        origin_text(attrs.origin),
-    )
-}
-
-fn print_path(text: &mut String, path: &Path) -> Result<(), NoMemory>
-    ensures { OnOk result (string_bytes text.new ≡ string_bytes text.old ++ path_text path.now) }
-{
-    let segments = path.as_slice();
-    if segments.is_empty() {
-        return text.push_str(" -");
-    }
-    print_segments(text, segments)
-}
-
-fn print_segments(text: &mut String, segments: &[Segment]) -> Result<(), NoMemory>
-    ensures { OnOk result (string_bytes text.new ≡ string_bytes text.old ++ flat_map segment_text segments.now) }
-{
-    for segment in segments {
-        print_segment(text, segment)?;
-    }
-    Ok(())
-}
-
-fn print_segment(text: &mut String, segment: &Segment) -> Result<(), NoMemory>
-    ensures { OnOk result (string_bytes text.new ≡ string_bytes text.old ++ segment_text segment.now) }
-{
-    match segment {
-        Segment::Sequence(numbers) => print_sequence(text, numbers.as_slice()),
-        Segment::Set(numbers) => print_set(text, numbers.as_slice()),
-    }
-}
-
-fn print_sequence(text: &mut String, numbers: &[u32]) -> Result<(), NoMemory>
-    ensures { OnOk result (string_bytes text.new ≡ string_bytes text.old ++ flat_map (λ n. codes " " ++ decimal n) numbers.now) }
-{
-    for number in numbers {
-        write!(text, " {number}")?;
-    }
-    Ok(())
-}
-
-fn print_set(text: &mut String, numbers: &[u32]) -> Result<(), NoMemory>
-    ensures { OnOk result (string_bytes text.new ≡ string_bytes text.old ++ (codes " {" ++ (set_text numbers.now ++ codes "}"))) }
-{
-    text.push_str(" {")?;
-    if let Some((first, others)) = numbers.split_first() {
-        write!(text, "{first}")?;
-        print_others(text, others)?;
-    }
-    text.push_str("}")
-}
-
-fn print_others(text: &mut String, numbers: &[u32]) -> Result<(), NoMemory>
-    ensures { OnOk result (string_bytes text.new ≡ string_bytes text.old ++ flat_map (λ m. codes "," ++ decimal m) numbers.now) }
-{
-    for number in numbers {
-        write!(text, ",{number}")?;
-    }
-    Ok(())
 }

@@ -1,9 +1,9 @@
 pub mod LastNumber
 pub mod FrontNumbers
-pub mod SameAttrs
 pub mod BySets
 pub mod EmptySet
 pub mod Placed
 pub mod PartialBits
 pub mod ItemsValid
 pub mod VerdictValid
+mod HopFamily

@@ -5,3 +5,5 @@ pub mod Verdict
 pub mod Wanted
 pub mod Progress
 pub mod EmptySets
+pub mod IsFor
+pub mod Asked

@@ -5,11 +5,13 @@ ghost use Rattle.std.specs.List.{list_any};
 ghost use Rattle.net_base.specs.Order.{same_family};
 ghost use Rattle.attr_model.specs.Path.{path_length};
 ghost use Rattle.conf_tree.specs.Membership.{holds};
+ghost use Rattle.filter_engine.specs.Asked.{AreRight};
 ghost use Rattle.filter_engine.specs.Conditions.{agrees, community_agrees, condition_holds, hop_seen, large_agrees, same_address, same_ovs};
 ghost use Rattle.filter_engine.specs.Named.{IsNamed};
 
+use crate::asked::Asked;
 use crate::path_test::{Wanted, part_has_wanted};
-use crate::{Context, Hop};
+use crate::{Context, Hop, asked};
 use attr_model::{Attrs, Path};
 use conf_tree::{CommunityPattern, Condition, LargePattern, Members, PrefixRange};
 use net_base::{Addr, Family, Ovs, Prefix};
@@ -22,9 +24,12 @@ pub(crate) fn condition_holds<M: Members>(
     attrs: &Attrs,
     hop: Hop,
     condition: Condition,
+    asked: &mut Asked,
 ) -> bool
-    requires { IsNamed (M.conf_of sets.now) condition }
-    ensures { result ≡ condition_holds (M.conf_of sets.now) context.now origin attrs.now hop condition }
+    requires named { IsNamed (M.conf_of sets.now) condition }
+    requires right { AreRight (M.conf_of sets.now) context.now origin asked.old }
+    ensures value { result ≡ condition_holds (M.conf_of sets.now) context.now origin attrs.now hop condition }
+    ensures kept { AreRight (M.conf_of sets.now) context.now origin asked.new }
 {
     match condition {
         Condition::Prefix(range) => prefix(context.prefix, range),
@@ -36,8 +41,8 @@ pub(crate) fn condition_holds<M: Members>(
         Condition::PathSet(part, set) => {
             part_has_wanted(sets, Wanted::Of(set), part, attrs.path.as_slice())
         }
-        Condition::OriginSet(set) => sets.in_origin_set(set, context.prefix, origin),
-        Condition::Ovs(wanted) => ovs(sets.ovs(context.prefix, origin), wanted),
+        Condition::OriginSet(set) => asked::in_origin_set(sets, context, origin, set, asked),
+        Condition::Ovs(wanted) => ovs(asked::ovs(sets, context, origin, asked), wanted),
         Condition::Community(pattern) => community(pattern, attrs.communities.as_slice()),
         Condition::LargeCommunity(pattern) => large_community(pattern, attrs.large.as_slice()),
         Condition::MaxAsLen(most) => max_as_len(&attrs.path, most),

@@ -1,13 +1,16 @@
-ghost use Rattle.std.specs.Prelude.{◌≡◌, ◌+◌, ◌↔◌, IsTrue, IfOk, OnOk, unwrap_or, true, false};
+ghost use Rattle.std.specs.Prelude.{◌≡◌, ◌+◌, ◌↔◌, IsTrue, IfOk, OnOk, unwrap_or, None, true, false};
 ghost use Rattle.std.specs.List.{All};
 ghost use Rattle.attr_model.specs.Path.{origin_as};
 ghost use Rattle.attr_model.specs.Valid.{IsValid};
+ghost use Rattle.filter_engine.specs.Asked.{AreRight};
+ghost use Rattle.filter_engine.specs.Conditions.{rule_matches};
 ghost use Rattle.filter_engine.specs.Named.{AreNamed, IsNamed};
 ghost use Rattle.filter_engine.specs.Verdict.{IsValidVerdict, Says, begun, decided, evaluated, outcome, taken, verdict};
 ghost use Rattle.filter_engine.specs.Progress.{course_of};
 
+use crate::asked::Asked;
 use crate::items::{apply_set, choose_hop};
-use crate::rule_test::rule_matches;
+use crate::rule_test::{all_hold, is_for};
 use crate::{Context, Hop, Steps, Verdict};
 use attr_model::Attrs;
 use conf_tree::{Action, Members, Rule, RuleList};
@@ -22,6 +25,21 @@ pub(crate) struct Progress {
     changed: Option<Attrs>,
     hop: Hop,
     passes: bool,
+}
+
+impl Progress {
+    /// No set is applied, and nothing decided.
+    fn begun() -> Progress
+        ensures unchanged { result.changed ≡ None }
+        ensures unset { result.hop ≡ Hop.Unset }
+        ensures denied { result.passes ≡ false }
+    {
+        Progress {
+            changed: None,
+            hop: Hop::Unset,
+            passes: false,
+        }
+    }
 }
 
 /// What the rules decide of a route (bgpd.conf(5), FILTER). They are read in order. The set of each rule that matches
@@ -62,14 +80,10 @@ fn walk<M: Members>(
     requires { AreNamed (M.conf_of sets.now) rules.now }
     ensures { IfOk result (λ progress. course_of route.now progress ≡ evaluated (M.conf_of sets.now) context.now origin rules.now (begun route.now)) }
 {
-    let mut progress = Progress {
-        changed: None,
-        hop: Hop::Unset,
-        passes: false,
-    };
+    let mut progress = Progress::begun();
+    let mut asked = Asked::nothing();
     for rule in rules {
-        let attrs = current(&progress, route);
-        if rule_matches(sets, context, origin, attrs, progress.hop, rule) {
+        if matches(sets, context, origin, route, &progress, rule, &mut asked) {
             take(alloc, rule, context, route, &mut progress)?;
             if rule.quick {
                 return Ok(progress);
@@ -77,6 +91,37 @@ fn walk<M: Members>(
         }
     }
     Ok(progress)
+}
+
+/// Whether a rule matches the route as it stands.
+fn matches<M: Members>(
+    sets: &M,
+    context: &Context,
+    origin: Option<u32>,
+    route: &Attrs,
+    progress: &Progress,
+    rule: &Rule,
+    asked: &mut Asked,
+) -> bool
+    requires named { All (IsNamed (M.conf_of sets.now)) rule.now.conditions }
+    requires right { AreRight (M.conf_of sets.now) context.now origin asked.old }
+    ensures value { result ≡ rule_matches (M.conf_of sets.now) context.now origin (course_of route.now progress.now).attrs progress.now.hop rule.now }
+    ensures kept { AreRight (M.conf_of sets.now) context.now origin asked.new }
+{
+    if !is_for(context, rule) {
+        return false;
+    }
+    let attrs = current(progress, route);
+    let conditions = rule.conditions.as_slice();
+    all_hold(
+        sets,
+        context,
+        origin,
+        attrs,
+        progress.hop,
+        conditions,
+        asked,
+    )
 }
 
 /// The attributes as they stand.

@@ -1,8 +1,11 @@
-ghost use Rattle.std.specs.Prelude.{◌≡◌, List, [], None};
+ghost use Rattle.std.specs.Prelude.{◌≡◌, List, [], None, Some, true};
+ghost use Rattle.net_base.specs.declared.addr.Addr.{Addr};
+ghost use Rattle.net_base.specs.Order.{same_family};
 ghost use Rattle.attr_model.specs.declared.attrs.Attrs.{Attrs};
 ghost use Rattle.conf_tree.specs.declared.conf.Conf.{Conf};
 ghost use Rattle.conf_tree.specs.declared.rule.Rule.{Rule};
 ghost use Rattle.filter_engine.specs.declared.context.Context.{Context};
+ghost use Rattle.filter_engine.specs.declared.verdict.Hop.TheVariants.{Given};
 ghost use Rattle.filter_engine.specs.Verdict.{verdict};
 
 /// A verdict goes by the sets of a configuration and by nothing else in it, and without rules no route passes.
@@ -11,4 +14,10 @@ pub fn verdict_goes_by_sets()
         one.prefix_sets ≡ other.prefix_sets → one.as_sets ≡ other.as_sets → one.origin_sets ≡ other.origin_sets → one.roas ≡ other.roas →
         verdict one rules context attrs ≡ verdict other rules context attrs }
     ensures none { (conf : Conf) (context : Context) (attrs : Attrs) → verdict conf [] context attrs ≡ None }
+{}
+
+/// A next hop that rules give has the family of the prefix: an address of another family changes nothing.
+pub fn given_hop_has_the_family()
+    ensures { (conf : Conf) (rules : List Rule) (context : Context) (attrs told : Attrs) (address : Addr) →
+        verdict conf rules context attrs ≡ Some (told, Given address) → same_family address.family context.prefix.family ≡ true }
 {}

@@ -1,6 +1,7 @@
 //! What filter rules decide of a route (bgpd.conf(5), FILTER).
 #![tactic(auto)]
 
+mod asked;
 mod communities;
 mod conditions;
 mod context;
@@ -15,7 +16,7 @@ mod verdict;
 pub use context::Context;
 pub use evaluation::evaluate;
 pub use items::{apply_set, choose_hop};
-pub use laws::verdict_goes_by_sets;
+pub use laws::{given_hop_has_the_family, verdict_goes_by_sets};
 pub use steps::Steps;
 pub use verdict::{Hop, Verdict};
 

@@ -3,53 +3,43 @@
 ghost use Rattle.std.specs.Prelude.{◌≡◌, false, bytes_eq};
 ghost use Rattle.std.specs.List.{All, list_all};
 ghost use Rattle.std.specs.Option.{option_map_or};
-ghost use Rattle.filter_engine.specs.Conditions.{condition_holds, direction_fits, peer_fits, rib_fits, rule_matches};
+ghost use Rattle.filter_engine.specs.Asked.{AreRight};
+ghost use Rattle.filter_engine.specs.Conditions.{condition_holds, direction_fits, peer_fits, rib_fits};
+ghost use Rattle.filter_engine.specs.IsFor.{is_for};
 ghost use Rattle.filter_engine.specs.Named.{IsNamed};
 
+use crate::asked::Asked;
 use crate::conditions::{condition_holds, same_address};
 use crate::{Context, Hop};
 use attr_model::Attrs;
 use conf_tree::{Condition, Direction, Members, Peer, Rule, Text};
 
-/// Whether the rule is for this direction, RIB and neighbour, and all its conditions hold for a route as it stands.
-pub(crate) fn rule_matches<M: Members>(
-    sets: &M,
-    context: &Context,
-    origin: Option<u32>,
-    attrs: &Attrs,
-    hop: Hop,
-    rule: &Rule,
-) -> bool
-    requires { All (IsNamed (M.conf_of sets.now)) rule.now.conditions }
-    ensures { result ≡ rule_matches (M.conf_of sets.now) context.now origin attrs.now hop rule.now }
+/// Whether the rule is for routes of this direction, RIB and neighbour.
+pub(crate) fn is_for(context: &Context, rule: &Rule) -> bool
+    ensures { result ≡ is_for context.now rule.now }
 {
     direction_fits(rule.direction, context)
         && rib_fits(rule.rib, context)
         && peer_fits(&rule.peer, context)
-        && all_hold(
-            sets,
-            context,
-            origin,
-            attrs,
-            hop,
-            rule.conditions.as_slice(),
-        )
 }
 
-/// Whether all conditions hold.
-fn all_hold<M: Members>(
+/// Whether all conditions hold for a route as it stands.
+pub(crate) fn all_hold<M: Members>(
     sets: &M,
     context: &Context,
     origin: Option<u32>,
     attrs: &Attrs,
     hop: Hop,
     conditions: &[Condition],
+    asked: &mut Asked,
 ) -> bool
-    requires { All (IsNamed (M.conf_of sets.now)) conditions.now }
-    ensures { result ≡ list_all (condition_holds (M.conf_of sets.now) context.now origin attrs.now hop) conditions.now }
+    requires named { All (IsNamed (M.conf_of sets.now)) conditions.now }
+    requires right { AreRight (M.conf_of sets.now) context.now origin asked.old }
+    ensures value { result ≡ list_all (condition_holds (M.conf_of sets.now) context.now origin attrs.now hop) conditions.now }
+    ensures kept { AreRight (M.conf_of sets.now) context.now origin asked.new }
 {
     for condition in conditions {
-        if !condition_holds(sets, context, origin, attrs, hop, *condition) {
+        if !condition_holds(sets, context, origin, attrs, hop, *condition, asked) {
             return false;
         }
     }

@@ -4,6 +4,7 @@ ghost use Rattle.filter_engine.specs.EmptySets.{empty_sets};
 ghost use Rattle.filter_engine.specs.Named.{AreNamed, IsNamed};
 
 use super::*;
+use crate::asked::Asked;
 use crate::conditions::condition_holds;
 use crate::rule_test::peer_fits;
 use attr_model::{Attrs, Path, Segment};
@@ -163,7 +164,16 @@ fn holds(attrs: &Attrs, condition: Condition) -> Option<bool> {
         return None;
     }
     let origin = Some(65002);
-    Some(condition_holds(&NoSets, &context(), origin, attrs, Hop::Unset, condition))
+    let mut asked = Asked::nothing();
+    Some(condition_holds(
+        &NoSets,
+        &context(),
+        origin,
+        attrs,
+        Hop::Unset,
+        condition,
+        &mut asked,
+    ))
 }
 
 #[test]

@@ -9,7 +9,5 @@ pub mod MemorySink
 pub mod MemorySource
 pub mod Net
 pub mod Reading
-pub mod Rows
 pub mod Sink
-pub mod TableMemory
 pub mod Told

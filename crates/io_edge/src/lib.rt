@@ -5,7 +5,6 @@
 mod clock;
 mod faults;
 mod files;
-mod kernel;
 mod lines;
 mod net;
 mod port;
@@ -15,7 +14,6 @@ mod source;
 pub use clock::{Clock, HostClock, MemoryClock};
 pub use faults::{CallList, Failed, Failures};
 pub use files::{FileFault, FileReading, Files, HostFiles, MemoryFile, MemoryFiles};
-pub use kernel::{HopList, Kernel, TableMemory};
 pub use lines::{LineFault, Lines, read_line};
 pub use net::{EventList, MemoryNet, NetCall, NetEvent, NetFault, NetRecord, PeerNet};
 pub use port::{CtlPort, MemoryPort};

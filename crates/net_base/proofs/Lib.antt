@@ -8,4 +8,6 @@ pub mod PrefixText
 pub mod Covering
 pub mod Order
 pub mod FirstFrom
+pub mod PrefixSets
 pub mod Lists
+mod Written

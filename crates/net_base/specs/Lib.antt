@@ -6,3 +6,4 @@ pub mod Number
 pub mod Order
 pub mod Conf
 pub mod Roa
+pub mod PrefixSet

@@ -42,6 +42,7 @@ impl Family {
 }
 
 impl Addr {
+    ghost use Rattle.net_base.specs.declared.addr.Family.TheVariants.{V4};
     ghost use Rattle.std.specs.Prelude.{◌≡◌, IfOk, string_bytes, IsTrue, ◌↔◌};
     ghost use Rattle.std.specs.Result.{result_ok};
     ghost use Rattle.std.specs.Net.Grammar.{Parses};
@@ -54,6 +55,16 @@ impl Addr {
         ensures { result ≡ addr_of family 0 }
     {
         Addr { family, bits: 0 }
+    }
+
+    /// The IPv4 address with these bits.
+    pub fn of_v4(bits: u32) -> Self
+        ensures { result ≡ addr_of V4 bits }
+    {
+        Addr {
+            family: Family::V4,
+            bits: u128::from(bits),
+        }
     }
 
     /// Whether this is the address of zeros.

@@ -7,7 +7,9 @@ mod items;
 pub mod number;
 mod prefix;
 mod prefix_set;
+mod printing;
 mod roa;
+mod text_length;
 mod way;
 
 pub use addr::{Addr, BadAddr, Family};

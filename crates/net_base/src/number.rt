@@ -1,4 +1,4 @@
-ghost use Rattle.std.specs.Prelude.{◌≡◌, ◌^◌, ◌<◌, IfOk, decimal, ◌↔◌, IsTrue, MatchOption, ◌≤◌};
+ghost use Rattle.std.specs.Prelude.{◌≡◌, ◌^◌, ◌<◌, IfOk, decimal, ◌↔◌, IsTrue, MatchOption, ◌≤◌, length};
 ghost use Rattle.std.specs.List.{list_all};
 ghost use Rattle.std.specs.Char.{is_ascii_digit};
 ghost use Rattle.std.specs.Str.Parse.{digits_value};
@@ -46,6 +46,20 @@ pub fn read_u32(text: &[u8]) -> Result<u32, BadNumber>
 {
     let value = read_u64(text)?;
     u32::try_from(value).map_err(|_| BadNumber::TooLarge)
+}
+
+/// How many digits a number has in decimal.
+pub fn digits(n: u64) -> usize
+    ensures value { result ≡ length (decimal n) }
+    ensures within { result ≤ 20 }
+{
+    let mut count = 1;
+    let mut rest = n;
+    while rest >= 10 {
+        rest /= 10;
+        count += 1;
+    }
+    count
 }
 
 /// Whether the text is digits alone without leading zeros.

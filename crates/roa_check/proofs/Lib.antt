@@ -1,0 +1,4 @@
+pub mod Nesting
+pub mod Parents
+pub mod Placing
+pub mod Walk

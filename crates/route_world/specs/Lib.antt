@@ -1,1 +1,5 @@
 pub mod World
+pub mod Import
+pub mod Export
+pub mod Tables
+pub mod Networks

@@ -8,12 +8,12 @@ use Rattle.core_msgs.specs.declared.event.Event.TheVariants as event
 use Rattle.core_msgs.specs.declared.answer.Answer.{Answer}
 use Rattle.core_msgs.specs.declared.answer.Line.{Line}
 use Rattle.core_msgs.specs.declared.answer.Line.TheVariants as line
-use Rattle.core_msgs.specs.declared.answer.Row.TheVariants as row
+use Rattle.core_msgs.specs.declared.row.Row.TheVariants as row
 use Rattle.core_msgs.specs.declared.answer.Refusal.{Refusal}
 use Rattle.core_msgs.specs.declared.answer.Refusal.TheVariants as refusal
-use Rattle.core_msgs.specs.declared.answer.Part.TheVariants as part
-use Rattle.route_world.specs.World.{World, loc_rib}
-use Rattle.run_record.specs.Run.{History, generation, under_way, world}
+use Rattle.core_msgs.specs.declared.parts.PartName.TheVariants as part
+use Rattle.route_world.specs.Networks.{network_rows}
+use Rattle.run_record.specs.Run.{History, generation, under_way, conf}
 
 -- a last line without report lines before it
 abbrev pub only : Line → Answer
@@ -33,10 +33,10 @@ abbrev pub reload_reports : Option ℕ → List Line
 reload_reports None = []
 reload_reports (Some generation) = line.AppliedSession generation ∷ line.AppliedDecision generation ∷ line.Reloaded generation ∷ []
 
--- the rows of Loc-RIB, where nothing is under way
-abbrev pub show_rib_answer : Option ℕ → World → Answer
-show_rib_answer (Some generation) world = only (line.Pending part.Reload)
-show_rib_answer None world = record { lines = map (λ r. line.Row (row.Route r)) (loc_rib world); last = line.Ok }
+-- the rows of Loc-RIB, where nothing is under way: without sessions they are those of the networks
+abbrev pub show_rib_answer : Option ℕ → Conf → Answer
+show_rib_answer (Some generation) conf = only (line.Pending part.Reload)
+show_rib_answer None conf = record { lines = map (λ r. line.Row (row.Route r)) (network_rows conf); last = line.Ok }
 
 -- whether the words are `show rib`
 abbrev pub are_show_rib : List (List ℕ) → Bool
@@ -47,8 +47,8 @@ are_show_rib _ = false
 abbrev pub answer_to : History → Event → Answer
 answer_to before (event.Reload text) = reload_answer (under_way before) (generation before) (taken text)
 answer_to before event.Settle = record { lines = reload_reports (under_way before); last = line.Quiet }
-answer_to before (event.Ctl words) = if are_show_rib words then show_rib_answer (under_way before) (world before) else refused refusal.NotBuilt
-answer_to before (event.NotBuilt text) = refused refusal.NotBuilt
+answer_to before (event.Ctl words) = if are_show_rib words then show_rib_answer (under_way before) (conf before) else refused refusal.NotBuilt
+answer_to before _ = refused refusal.NotBuilt
 
 -- memory may be refused to a reload that would be read
 abbrev pub MayWantMemory : History → Event → Type 0

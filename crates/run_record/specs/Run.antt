@@ -9,7 +9,6 @@ use Rattle.core_msgs.specs.declared.event.Event.TheVariants.{Reload}
 use Rattle.core_msgs.specs.declared.answer.Answer.{Answer}
 use Rattle.core_msgs.specs.declared.answer.Line.{Line}
 use Rattle.core_msgs.specs.declared.answer.Line.TheVariants.{OkGeneration, Reloaded}
-use Rattle.route_world.specs.World.{World}
 
 -- an event with its answer
 pub record Step : Type 0 where
@@ -52,7 +51,3 @@ conf_told before _ _ = before
 abbrev pub conf : History → Conf
 conf [] = empty_conf
 conf (step ∷ before) = conf_told (conf before) step.event step.answer.last
-
--- the world that a history says
-abbrev pub world : History → World
-world history = record { conf = conf history }

@@ -9,18 +9,18 @@ use Rattle.net_base.specs.declared.addr.Family.{Family}
 use Rattle.net_base.specs.declared.addr.Family.TheVariants.{V4, V6}
 use Rattle.net_base.specs.declared.prefix.Prefix.{Prefix}
 use Rattle.bgp_wire.specs.declared.open.Encoding.{Encoding}
-use Rattle.bgp_wire.specs.Message.{header_bytes, message_bytes, header_fault, IsMessage}
+use Rattle.bgp_wire.specs.Message.{message_header, message_bytes, header_fault, IsMessage}
 use Rattle.attr_model.specs.declared.attrs.Attrs.{Attrs}
 use Rattle.attr_codec.specs.Prefixes.{prefixes_bytes}
-use Rattle.attr_codec.specs.Written.{row, header_bytes as attribute_header, row_bytes, attrs_bytes, reach_row, unreach_row}
+use Rattle.attr_codec.specs.Written.{row, header_bytes, row_bytes, attrs_bytes, reach_row, unreach_row}
 use Rattle.attr_codec.specs.Size.{attribute_size, nlri_size}
 use Rattle.update_codec.specs.declared.out_update.OutUpdate.{OutUpdate}
 use Rattle.update_codec.specs.declared.out_update.OutUpdate.TheVariants.{Withdraw, Announce}
 use Rattle.update_codec.specs.Written.{family_of, withdraw_body, announce_body, update_body, update_message, withdraw_size, message_size, Fits, FitsSize}
 
 row_by : (flags kind : ℕ) (value : List ℕ) (b : Bool) → nat_lt 255 (length value) ≡ b → length (row_bytes (row flags kind (Some value))) ≡ attribute_size (length value)
-row_by flags kind value true e = rw e (omega (arith, length-append (attribute_header flags kind (length value)) value))
-row_by flags kind value false e = rw e (omega (arith, length-append (attribute_header flags kind (length value)) value))
+row_by flags kind value true e = rw e (omega (arith, length-append (header_bytes flags kind (length value)) value))
+row_by flags kind value false e = rw e (omega (arith, length-append (header_bytes flags kind (length value)) value))
 
 pub row_size : (flags kind : ℕ) (value : List ℕ) (n : ℕ) → length value ≡ n → length (row_bytes (row flags kind (Some value))) ≡ attribute_size n
 row_size flags kind value n e = row_by flags kind value (nat_lt 255 (length value)) refl ∙ ap attribute_size e
@@ -64,11 +64,11 @@ unfolding update_message
 kind_is enc update = refl
 
 -- the header and the body are the message
-pub message_put : (enc : Encoding) (update : OutUpdate) (old header whole : List ℕ) (size : ℕ) → size ≡ message_size enc update → header ≡ old ++ header_bytes 2 size → whole ≡ header ++ update_body enc update → whole ≡ old ++ message_bytes (update_message enc update)
+pub message_put : (enc : Encoding) (update : OutUpdate) (old header whole : List ℕ) (size : ℕ) → size ≡ message_size enc update → header ≡ old ++ message_header 2 size → whole ≡ header ++ update_body enc update → whole ≡ old ++ message_bytes (update_message enc update)
 unfolding update_message
 message_put enc update old header whole size s h w =
     let e : size ≡ 19 + length (update_body enc update) = s ∙ sym (body_size enc update) in
-    w ∙ ap (λ (x : List ℕ). x ++ update_body enc update) h ∙ append_assoc old (header_bytes 2 size) (update_body enc update) ∙ ap (λ (n : ℕ). old ++ (header_bytes 2 n ++ update_body enc update)) e
+    w ∙ ap (λ (x : List ℕ). x ++ update_body enc update) h ∙ append_assoc old (message_header 2 size) (update_body enc update) ∙ ap (λ (n : ℕ). old ++ (message_header 2 n ++ update_body enc update)) e
 
 -- an UPDATE has at least 23 bytes
 withdraw_least : (family : Family) (n : ℕ) → 23 ≤ withdraw_size family n

@@ -4,3 +4,5 @@ pub mod Plain
 pub mod Stream
 pub mod ReadValid
 pub mod HeldValid
+pub mod Going
+pub mod LastWord

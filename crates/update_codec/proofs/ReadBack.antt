@@ -1,6 +1,6 @@
 -- The peer reads an UPDATE that was written as what was sent.
-use Rattle.std.proofs.Common.{◌≡◌, ◌≢◌, ◌∙◌, ℕ, ◌+◌, ◌^◌, ◌<◌, ◌≤◌, Bool, true, false, List, [], ◌∷◌, ◌++◌, length, Some, None, Ok, refl, ap, sym, subst, arith, append_assoc, append-nil, length-append, lit<}
-use Rattle.std.specs.Prelude.{nat_lt, IsTrue}
+use Rattle.std.proofs.Common.{◌≡◌, ◌≢◌, ◌∙◌, ℕ, ◌+◌, ◌^◌, ◌<◌, ◌≤◌, Bool, true, false, not, List, Option, [], ◌∷◌, ◌++◌, length, Some, None, Ok, refl, ap, sym, subst, arith, append_assoc, append-nil, length-append, lit<}
+use Rattle.std.specs.Prelude.{nat_lt, IsTrue, is_some}
 use Rattle.std.specs.List.{AllByRecursion}
 use Rattle.std.proofs.lemmas.Bool.Decides.{nat_tests}
 use Rattle.byteorder.specs.Endian.{big_bytes}
@@ -23,7 +23,7 @@ use Rattle.attr_codec.proofs.Shorts.{short_values}
 use Rattle.update_codec.specs.declared.out_update.OutUpdate.{OutUpdate}
 use Rattle.update_codec.specs.declared.out_update.OutUpdate.TheVariants.{Withdraw, Announce}
 use Rattle.update_codec.specs.Update.{field_at, withdrawn_at, agreed, group, has_hop, update_of, update_says}
-use Rattle.update_codec.specs.Written.{family_of, sized, withdraw_body, announce_body, update_body, update_message, told, is_agreed, MayBeSent, IsWritable, FitsSize, HasWidth}
+use Rattle.update_codec.specs.Written.{family_of, sized, withdraw_body, announce_body, update_body, update_message, read_by_peer, is_agreed, MayBeSent, IsWritable, FitsSize, HasWidth}
 use Rattle.update_codec.proofs.Bytes.{size_is, body_is}
 
 -- a field behind its length is read again
@@ -76,7 +76,7 @@ hop_there [] hop = refl
 hop_there (p ∷ ps) hop = refl
 
 announce_v4 : (enc : Encoding) (attrs : Attrs) (ps : List Prefix) → IsSent enc attrs → attrs.hop.family ≡ V4 → ps ≢ [] → AllByRecursion (IsOf V4) ps → enc.v4 ≡ true → length (attrs_bytes enc attrs) < 256 ^ 2
-    → update_says enc (announce_body enc attrs V4 ps) ≡ Ok (told (Announce attrs ps))
+    → update_says enc (announce_body enc attrs V4 ps) ≡ Ok (read_by_peer (Announce attrs ps))
 announce_v4 enc attrs ps is e some each v4 h =
     let field = attrs_bytes enc attrs in
     let front = no_withdrawn (sized field ++ prefixes_bytes ps) (omega arith) in
@@ -86,7 +86,7 @@ announce_v4 enc attrs ps is e some each v4 h =
     ∙ rw (v4, hop, hop_there ps attrs.hop, some_group attrs ps some) refl
 
 announce_v6 : (enc : Encoding) (attrs : Attrs) (ps : List Prefix) → IsSent enc attrs → attrs.hop.family ≡ V6 → ps ≢ [] → AllByRecursion (IsOf V6) ps → enc.v6 ≡ true → 21 + length (prefixes_bytes ps) ≤ 65535 → length (reach_bytes enc attrs ps) < 256 ^ 2
-    → update_says enc (announce_body enc attrs V6 ps) ≡ Ok (told (Announce attrs ps))
+    → update_says enc (announce_body enc attrs V6 ps) ≡ Ok (read_by_peer (Announce attrs ps))
 announce_v6 enc attrs ps is e some each v6 short h =
     let field = reach_bytes enc attrs ps in
     let front = no_withdrawn (sized field) (omega arith) in
@@ -95,6 +95,10 @@ announce_v6 enc attrs ps is e some each v6 short h =
     ∙ rw (agreed_none enc.v4, some_group attrs ps some) refl
 
 -- ---- each UPDATE
+
+dropped : (o : Option ℕ) → is_some o ≡ false → o ≡ None
+dropped None e = refl
+dropped (Some n) e = absurd cc
 
 withdraw_back : (enc : Encoding) (ps : List Prefix) (family : Family) → AllByRecursion (IsOf family) ps → IsTrue (is_agreed enc family) → 19 + length (withdraw_body family ps) ≤ 4096 → update_says enc (withdraw_body family ps) ≡ Ok (record { withdrawn = ps; announced = [] })
 withdraw_back enc ps V4 each v4 h =
@@ -105,26 +109,26 @@ withdraw_back enc ps V6 each v6 h =
     withdraw_v6 enc ps each v6 (omega arith) (omega arith)
 
 announce_back : (enc : Encoding) (attrs : Attrs) (ps : List Prefix) (family : Family) → attrs.hop.family ≡ family → HaveWidth attrs → MayBeSent enc attrs → ps ≢ [] → AllByRecursion (IsOf family) ps → IsTrue (is_agreed enc family)
-    → 19 + length (announce_body enc attrs family ps) ≤ 4096 → update_says enc (announce_body enc attrs family ps) ≡ Ok (told (Announce attrs ps))
+    → 19 + length (announce_body enc attrs family ps) ≤ 4096 → update_says enc (announce_body enc attrs family ps) ≡ Ok (read_by_peer (Announce attrs ps))
 announce_back enc attrs ps V4 e width may some each v4 h =
     let l = length-append (attrs_bytes enc attrs) (prefixes_bytes ps) in
     let short : length (attrs_bytes enc attrs) ≤ 65535 = omega arith in
-    let is : IsSent enc attrs = record { valid = may.valid; short = short_values enc attrs may.valid.unknown_types short; width = width; weight = may.weight; local_pref = may.local_pref } in
+    let is : IsSent enc attrs = record { valid = may.valid; short = short_values enc attrs may.valid.unknown_types short; width = width; weight = may.weight; local_pref = λ e. dropped attrs.local_pref (may.local_pref ∙ ap not e) } in
     announce_v4 enc attrs ps is e some each v4 (omega arith)
 announce_back enc attrs ps V6 e width may some each v6 h =
     let l = length-append (row_bytes (reach_row attrs.hop.bits ps)) (attrs_bytes enc attrs) in
     let value = ((0 ∷ 2 ∷ 1 ∷ 16 ∷ []) ++ big_bytes 16 attrs.hop.bits) ++ ((0 ∷ []) ++ prefixes_bytes ps) in
     let size = length-append (header_bytes 128 14 (length value)) value in
     let short : length (attrs_bytes enc attrs) ≤ 65535 = omega arith in
-    let is : IsSent enc attrs = record { valid = may.valid; short = short_values enc attrs may.valid.unknown_types short; width = width; weight = may.weight; local_pref = may.local_pref } in
+    let is : IsSent enc attrs = record { valid = may.valid; short = short_values enc attrs may.valid.unknown_types short; width = width; weight = may.weight; local_pref = λ e. dropped attrs.local_pref (may.local_pref ∙ ap not e) } in
     announce_v6 enc attrs ps is e some each v6 (omega arith) (omega arith)
 
-back : (enc : Encoding) (update : OutUpdate) → IsWritable enc update → 19 + length (update_body enc update) ≤ 4096 → HasWidth update → update_says enc (update_body enc update) ≡ Ok (told update)
+back : (enc : Encoding) (update : OutUpdate) → IsWritable enc update → 19 + length (update_body enc update) ≤ 4096 → HasWidth update → update_says enc (update_body enc update) ≡ Ok (read_by_peer update)
 back enc (Withdraw ps) may fits width = withdraw_back enc ps (family_of ps) may.each may.agreed fits
 back enc (Announce attrs ps) may fits width = announce_back enc attrs ps attrs.hop.family refl width may.1 may.0.some may.0.each may.0.agreed fits
 
 -- what was written for an update that fits is read as that update
-pub read_back : (enc : Encoding) (update : OutUpdate) → IsWritable enc update → FitsSize enc update → HasWidth update → update_says enc (update_message enc update).body ≡ Ok (told update)
+pub read_back : (enc : Encoding) (update : OutUpdate) → IsWritable enc update → FitsSize enc update → HasWidth update → update_says enc (update_message enc update).body ≡ Ok (read_by_peer update)
 read_back enc update may fits width =
     let body = body_is enc update in
     let size : 19 + length (update_body enc update) ≤ 4096 = subst (λ (b : List ℕ). 19 + length b ≤ 4096) body (subst (λ (n : ℕ). n ≤ 4096) (sym (size_is enc update)) fits) in

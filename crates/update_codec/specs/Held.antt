@@ -1,5 +1,5 @@
 -- The routes that UPDATEs leave (RFC 4271 section 3.2): by prefix, those whose last word is an announcement.
-use Rattle.std.specs.Prelude.{ℕ, ◌==◌, if◌then◌else◌, List, [], ◌∷◌, fold, flat_map, Result, Ok, Err}
+use Rattle.std.specs.Prelude.{ℕ, ◌==◌, if◌then◌else◌, List, [], ◌∷◌, ◌++◌, fold, map, flat_map, Option, Some, None, Result, Ok, Err}
 use Rattle.std.specs.BTreeMap.{insert_entry, is_at}
 use Rattle.std.specs.Map.{remove_entry}
 use Rattle.net_base.specs.declared.prefix.Prefix.{Prefix}
@@ -30,6 +30,24 @@ with_update routes update = fold with_group (fold without routes update.withdraw
 
 abbrev pub held : List Update → Routes
 held updates = fold with_update [] updates
+
+-- The words of an UPDATE, one after the other: a prefix with the attributes that it is announced with, or without where it is
+-- withdrawn.
+abbrev pub withdrawal_of : Prefix → Prefix × Option Attrs
+withdrawal_of prefix = (prefix, None)
+
+abbrev pub announcements_of : Attrs × List Prefix → List (Prefix × Option Attrs)
+announcements_of group = map (λ prefix. (prefix, Some group.0)) group.1
+
+abbrev pub words_of : Update → List (Prefix × Option Attrs)
+words_of update = map withdrawal_of update.withdrawn ++ flat_map announcements_of update.announced
+
+-- The attributes that the last word on a prefix announces.
+abbrev pub with_word : Prefix → Option Attrs → Prefix × Option Attrs → Option Attrs
+with_word prefix said word = if is_at (prefix_cmp prefix) word.0 then word.1 else said
+
+abbrev pub last_word : Prefix → List (Prefix × Option Attrs) → Option Attrs
+last_word prefix words = fold (with_word prefix) None words
 
 -- The UPDATE that a message is, where it is one without a NOTIFICATION.
 abbrev pub read_ones : Result Update ℕ → List Update

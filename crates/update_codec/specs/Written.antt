@@ -54,9 +54,9 @@ message_size enc (Withdraw prefixes) = withdraw_size (family_of prefixes) (lengt
 message_size enc (Announce attrs prefixes) = update_size enc attrs (length (prefixes_bytes prefixes))
 
 -- What the peer reads from it.
-abbrev pub told : OutUpdate → Update
-told (Withdraw prefixes) = record { withdrawn = prefixes; announced = [] }
-told (Announce attrs prefixes) = record { withdrawn = []; announced = (attrs, prefixes) ∷ [] }
+abbrev pub read_by_peer : OutUpdate → Update
+read_by_peer (Withdraw prefixes) = record { withdrawn = prefixes; announced = [] }
+read_by_peer (Announce attrs prefixes) = record { withdrawn = []; announced = (attrs, prefixes) ∷ [] }
 
 -- Prefixes of one family that is agreed, at least one.
 abbrev pub is_agreed : Encoding → Family → Bool

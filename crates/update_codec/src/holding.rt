@@ -8,14 +8,11 @@ use crate::reading::read_update;
 use crate::update::Update;
 use attr_codec::UpdateFault;
 use attr_model::Attrs;
-use bgp_wire::{Cut, Encoding, cut, kind};
+use bgp_wire::{Cut, Encoding, HEADER_LENGTH, cut, kind};
 use net_base::{NoMemory, Prefix, PrefixList};
 use std::alloc::{AllocError, Global};
 use std::collections::BTreeMap;
 use std::marker::Model;
-
-/// How many bytes a header has (RFC 4271 section 4.1).
-const HEADER_LENGTH: usize = 19;
 
 /// Routes by prefix, which contracts see as the list of prefixes with their attributes.
 #[derive(Drop)]

@@ -9,7 +9,10 @@ mod update;
 mod writing;
 
 pub use holding::{Routes, held, told};
-pub use laws::{held_attributes_are_valid, update_attributes_are_valid};
+pub use laws::{
+    held_attributes_are_valid, held_by_last_word, held_goes_on, update_attributes_are_valid,
+    updates_read_back,
+};
 pub use out_update::OutUpdate;
 pub use reading::read_update;
 pub use update::{GroupList, Update};

@@ -1,31 +1,26 @@
 //! Writing an UPDATE.
 
 ghost use Rattle.std.specs.Prelude.{◌≡◌, ◌≤◌, ◌↔◌, IsTrue, ◌+◌, ◌++◌, ◌∷◌, [], Ok, length, OnOk, OnErr};
-ghost use Rattle.bgp_wire.specs.Message.{header_bytes, message_bytes, IsMessage};
+ghost use Rattle.bgp_wire.specs.Message.{message_header, message_bytes, IsMessage};
 ghost use Rattle.bgp_wire.specs.Written.{Keeps};
 ghost use Rattle.net_base.specs.declared.addr.Family.TheVariants.{V4, V6};
 ghost use Rattle.attr_model.specs.Valid.{IsValid};
 ghost use Rattle.attr_codec.specs.Prefixes.{prefixes_bytes};
 ghost use Rattle.attr_codec.specs.Written.{attrs_bytes};
 ghost use Rattle.attr_codec.specs.ReadBack.{reach_bytes};
-ghost use Rattle.attr_codec.specs.Size.{attribute_size, capped};
+ghost use Rattle.attr_codec.specs.Size.{attribute_size, update_size, capped};
 ghost use Rattle.attr_codec.specs.Width.{HaveWidth};
 ghost use Rattle.update_codec.specs.Update.{update_says};
-ghost use Rattle.update_codec.specs.Written.{family_of, sized, withdraw_body, announce_body, update_body, update_message, withdraw_size, message_size, told, ArePrefixes, MayBeSent, IsWritable, Fits, FitsSize, HasWidth};
+ghost use Rattle.update_codec.specs.Written.{family_of, sized, withdraw_body, announce_body, update_body, update_message, withdraw_size, message_size, read_by_peer, ArePrefixes, MayBeSent, IsWritable, Fits, FitsSize, HasWidth};
 
 use crate::out_update::OutUpdate;
-use attr_codec::{
-    attrs_size, prefixes_size, size, write_attrs, write_prefixes, write_reach, write_unreach,
-};
+use attr_codec::{prefixes_size, size, write_attrs, write_prefixes, write_reach, write_unreach};
 use attr_model::Attrs;
-use bgp_wire::{Encoding, kind};
+use bgp_wire::{Encoding, LONGEST, kind, put_header};
 use net_base::{Family, NoMemory, Prefix};
 use wire_buf::Pipe;
 
-/// How many bytes the longest message has (RFC 4271 section 4).
-const LONGEST: usize = 4096;
-
-// The family of prefixes, told by the first.
+// The family of prefixes, read_by_peer by the first.
 fn family_of(prefixes: &[Prefix]) -> Family
     ensures { result ≡ family_of prefixes.now }
 {
@@ -69,16 +64,6 @@ pub fn fits(enc: Encoding, update: &OutUpdate) -> bool
     size_of(enc, update) <= LONGEST
 }
 
-// The header of an UPDATE of so many bytes.
-fn put_header(size: u16, out: &mut Pipe) -> Result<(), NoMemory>
-    ensures ok { OnOk result (out.new ≡ out.old ++ header_bytes 2 size) }
-    ensures err { OnErr result (Keeps out.old out.new) }
-{
-    out.push(&[0xff; 16])?;
-    out.put_u16(size)?;
-    out.put_u8(kind::UPDATE)
-}
-
 // The withdrawn field, and no attributes.
 fn put_plain_withdrawal(prefixes: &[Prefix], out: &mut Pipe) -> Result<(), NoMemory>
     requires { length (prefixes_bytes prefixes.now) ≤ 65535 }
@@ -117,16 +102,18 @@ fn put_withdrawal(prefixes: &[Prefix], out: &mut Pipe) -> Result<(), NoMemory>
 fn put_plain_announcement(
     enc: Encoding,
     attrs: &Attrs,
+    field: usize,
     prefixes: &[Prefix],
     out: &mut Pipe,
 ) -> Result<(), NoMemory>
     requires valid { IsValid attrs.now }
+    requires field { field ≡ length (attrs_bytes enc attrs.now) }
     requires size { length (attrs_bytes enc attrs.now) ≤ 65535 }
     ensures ok { OnOk result (out.new ≡ out.old ++ (sized (attrs_bytes enc attrs.now) ++ prefixes_bytes prefixes.now)) }
     ensures err { OnErr result (Keeps out.old out.new) }
     ensures width { OnOk result (HaveWidth attrs.now) }
 {
-    out.put_u16(attrs_size(enc, attrs) as u16)?;
+    out.put_u16(field as u16)?;
     write_attrs(enc, attrs, out)?;
     write_prefixes(prefixes, out)
 }
@@ -155,9 +142,11 @@ fn put_announcement(
     enc: Encoding,
     attrs: &Attrs,
     prefixes: &[Prefix],
+    whole: usize,
     out: &mut Pipe,
 ) -> Result<(), NoMemory>
     requires valid { IsValid attrs.now }
+    requires whole { whole ≡ update_size enc attrs.now (length (prefixes_bytes prefixes.now)) }
     requires size { length (announce_body enc attrs.now attrs.now.hop.family prefixes.now) ≤ 65535 }
     ensures ok { OnOk result (out.new ≡ out.old ++ announce_body enc attrs.now attrs.now.hop.family prefixes.now) }
     ensures err { OnErr result (Keeps out.old out.new) }
@@ -165,13 +154,17 @@ fn put_announcement(
 {
     out.push(&[0, 0])?;
     match attrs.hop.family {
-        Family::V4 => put_plain_announcement(enc, attrs, prefixes, out),
+        Family::V4 => {
+            let field = whole - 23 - prefixes_size(prefixes);
+            put_plain_announcement(enc, attrs, field, prefixes, out)
+        }
         Family::V6 => put_mp_announcement(enc, attrs, prefixes, out),
     }
 }
 
-fn put_body(enc: Encoding, update: &OutUpdate, out: &mut Pipe) -> Result<(), NoMemory>
+fn put_body(enc: Encoding, update: &OutUpdate, whole: usize, out: &mut Pipe) -> Result<(), NoMemory>
     requires writable { IsWritable enc update.now }
+    requires whole { whole ≡ message_size enc update.now }
     requires fits { FitsSize enc update.now }
     ensures ok { OnOk result (out.new ≡ out.old ++ update_body enc update.now) }
     ensures err { OnErr result (Keeps out.old out.new) }
@@ -180,7 +173,7 @@ fn put_body(enc: Encoding, update: &OutUpdate, out: &mut Pipe) -> Result<(), NoM
     match update {
         OutUpdate::Withdraw(prefixes) => put_withdrawal(prefixes.as_slice(), out),
         OutUpdate::Announce(attrs, prefixes) => {
-            put_announcement(enc, attrs, prefixes.as_slice(), out)
+            put_announcement(enc, attrs, prefixes.as_slice(), whole, out)
         }
     }
 }
@@ -192,8 +185,9 @@ fn put_update(enc: Encoding, update: &OutUpdate, out: &mut Pipe) -> Result<(), N
     ensures err { OnErr result (Keeps out.old out.new) }
     ensures width { OnOk result (HasWidth update.now) }
 {
-    put_header(size_of(enc, update) as u16, out)?;
-    put_body(enc, update, out)?;
+    let size = size_of(enc, update);
+    put_header(kind::UPDATE, size as u16, out)?;
+    put_body(enc, update, size, out)?;
     Ok(())
 }
 
@@ -210,12 +204,9 @@ pub fn write_update(enc: Encoding, update: &OutUpdate, out: &mut Pipe) -> Result
     ensures size { length (message_bytes (update_message enc update.now)) ≡ message_size enc update.now }
     ensures whole { IsMessage (update_message enc update.now) }
     // The peer reads the update from it.
-    ensures reads_back { OnOk result (update_says enc (update_message enc update.now).body ≡ Ok (told update.now)) }
+    ensures reads_back { OnOk result (update_says enc (update_message enc update.now).body ≡ Ok (read_by_peer update.now)) }
 {
     let held = out.len();
     let written = put_update(enc, update, out);
-    if written.is_err() {
-        out.truncate(held);
-    }
-    written
+    out.keep_on_err(held, written)
 }

@@ -13,7 +13,7 @@ const KEPT: usize = 4096;
 /// The bytes stand in one block behind those that were taken. `take` moves the front forward, and
 /// only once as many bytes were taken as are left are those that are left moved down. So each move
 /// is paid by as many bytes taken, and `push` and `take` cost amortized O(1) a byte, whatever the pipe holds.
-/// At such a move a block of more than four times what is left is given back for one of twice that. So
+/// Behind each `take` and `truncate` a block of more than four times what it holds is given back for one of twice that. So
 /// the block is at most eight times what the pipe holds, or `KEPT`, unless the
 /// allocator has no smaller block.
 #[derive(Drop)]
@@ -79,11 +79,7 @@ impl Pipe {
         ensures { self.new ≡ drop n self.old }
     {
         self.taken += n;
-        let left = self.bytes.len() - self.taken;
-        if left <= self.taken {
-            drop_front(&mut self.bytes, self.taken);
-            self.taken = 0;
-        }
+        self.settle();
     }
 
     /// Keeps the first `n` bytes, and drops those behind them. It takes no memory.
@@ -92,6 +88,43 @@ impl Pipe {
         ensures { self.new ≡ take n self.old }
     {
         self.bytes.truncate(self.taken + n);
+        self.settle();
+    }
+
+    /// Hands on how a write behind the first `n` bytes ended. Where it failed, only these are kept.
+    pub fn keep_on_err(
+        &mut self,
+        n: usize,
+        written: Result<(), AllocError>,
+    ) -> Result<(), AllocError>
+        requires { n ≤ length self.old }
+        ensures result { result ≡ written }
+        ensures ok { OnOk result (self.new ≡ self.old) }
+        ensures err { OnErr result (self.new ≡ take n self.old) }
+    {
+        if written.is_err() {
+            self.truncate(n);
+        }
+        written
+    }
+
+    /// How many bytes its block has room for.
+    pub fn room(&self) -> usize
+        ensures { length self.now ≤ result }
+    {
+        self.bytes.capacity()
+    }
+
+    /// Moves what is left down where at least as much was taken, and gives a block back that is much too large.
+    fn settle(&mut self)
+        ensures { self.new ≡ self.old }
+    {
+        let left = self.bytes.len() - self.taken;
+        if left <= self.taken {
+            self.bytes.drain(..self.taken);
+            self.taken = 0;
+        }
+        give_back(&mut self.bytes);
     }
 
     /// Puts one byte behind those that it holds. Where memory is refused, it holds what it held.
@@ -125,12 +158,10 @@ impl Pipe {
     }
 }
 
-// Drops the first `count` bytes, and gives a block back that is much too large.
-fn drop_front(bytes: &mut Vec<u8>, count: usize)
-    requires { count ≤ vec_len bytes.old }
-    ensures { bytes.new.items ≡ drop count bytes.old.items }
+/// Gives a block back of more than four times what it holds, for one of twice that, or of `KEPT`.
+fn give_back(bytes: &mut Vec<u8>)
+    ensures { bytes.new.items ≡ bytes.old.items }
 {
-    bytes.drain(..count);
     let held = bytes.len();
     if bytes.capacity() / 4 > held {
         bytes.shrink_to(std::cmp::max(held * 2, KEPT));

@@ -16,8 +16,14 @@ fn prefixes_stand_in_order(rt: HostRuntime) -> Result<(), Fail> {
     assert_eq!(rt; set.first_from(Prefix::read("10.0.0.0/9")?), Some(inner));
     assert_eq!(rt; set.first_from(Prefix::read("11.0.0.0/8")?), Some(v6));
     assert_eq!(rt; set.first_from(Prefix::read("::/1")?), None);
+    assert_eq!(rt; set.first(), Some(wide));
+    assert_eq!(rt; set.first_after(wide), Some(inner));
+    assert_eq!(rt; set.first_after(inner), Some(v6));
+    assert_eq!(rt; set.first_after(v6), None);
     set.remove(inner);
     assert!(rt; set.has(wide) && !set.has(inner));
     assert_eq!(rt; set.first_from(inner), Some(v6));
+    set.clear();
+    assert_eq!(rt; set.first(), None);
     Ok(())
 }

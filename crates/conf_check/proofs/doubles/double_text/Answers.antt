@@ -1,7 +1,7 @@
 use Rattle.std.proofs.Common.{◌≡◌, subst}
 use Rattle.std.specs.Prelude.{IfOk}
 use Rattle.conf_tree.specs.Checks.{first_double}
-use Rattle.conf_check.proofs.Orders.{text_same}
+use Rattle.conf_tree.proofs.Orders.{text_same}
 use Rattle.conf_check.proofs.doubles.double_text.Goals as goal
 
 pub returns : goal.returns

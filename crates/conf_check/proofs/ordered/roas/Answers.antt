@@ -4,7 +4,7 @@ use Rattle.std.specs.BTreeSet.{insert_key}
 use Rattle.conf_tree.specs.Flat.{roa_cmp}
 use Rattle.conf_tree.specs.Said.{roas_of}
 use Rattle.conf_check.proofs.Folds.{fold_step}
-use Rattle.conf_check.proofs.Orders.{derived_roa_cmp}
+use Rattle.conf_tree.proofs.Orders.{derived_roa_cmp}
 use Rattle.conf_check.proofs.ordered.roas.Goals as goal
 
 pub loop-line-preserved : goal.loop-line-preserved

@@ -1,7 +1,8 @@
 use Rattle.std.proofs.Common.{◌∙◌, sym}
 use Rattle.conf_tree.specs.Cuts.{first_line}
 use Rattle.conf_lex.specs.Views.{rules_of}
-use Rattle.conf_lex.proofs.FirstLines.{read_to_fault, read_to_end, read_on, left_less}
+use Rattle.conf_tree.proofs.FirstLines.{left_less}
+use Rattle.conf_lex.proofs.FirstLines.{read_to_fault, read_to_end, read_on}
 use Rattle.conf_lex.proofs.line.first_line.Goals as goal
 
 pub returns-in-Err : goal.returns-in-Err

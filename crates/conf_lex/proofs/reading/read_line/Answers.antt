@@ -7,7 +7,7 @@ use Rattle.conf_lex.specs.Puts.{expanded_of}
 use Rattle.conf_lex.specs.Short.{AllShort}
 use Rattle.conf_lex.specs.Tables.{macros_of}
 use Rattle.conf_lex.specs.Views.{rules_of}
-use Rattle.conf_lex.proofs.FirstLines.{all_short}
+use Rattle.conf_tree.proofs.FirstLines.{all_short}
 use Rattle.conf_lex.proofs.ReadingLines.{line_reads, line_faulty, unreplaced_fails}
 use Rattle.conf_lex.proofs.reading.read_line.Goals as goal
 

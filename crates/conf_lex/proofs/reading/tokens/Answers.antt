@@ -7,7 +7,7 @@ use Rattle.conf_tree.specs.Tokens.{lines_read, tokens}
 use Rattle.conf_lex.specs.Reading.{put_tokens}
 use Rattle.conf_lex.specs.Tables.{macros_of}
 use Rattle.conf_lex.specs.Views.{rules_of}
-use Rattle.conf_lex.proofs.Joining.{joined_length}
+use Rattle.conf_tree.proofs.Joining.{joined_length}
 use Rattle.conf_lex.proofs.ReadingLines.{line_more, line_fails, lines_end, lines_begin}
 use Rattle.conf_lex.proofs.reading.tokens.Goals as goal
 

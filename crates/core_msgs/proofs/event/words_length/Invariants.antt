@@ -1,9 +1,10 @@
-use Rattle.std.proofs.Common.{◌≡◌, ◌+◌, ◌*◌, ◌^◌, ◌≤◌, ◌++◌, length, drop, flat_map, codes}
+use Rattle.std.proofs.Common.{◌≡◌, ◌+◌, ◌*◌, ◌^◌, ◌≤◌, length, drop}
+use Rattle.core_msgs.specs.EventText.{words_text}
 use Rattle.core_msgs.proofs.event.words_length.Given as goal
 
 -- what is counted, and what the words to come have, is what all words have
 abbrev pub invariant-loop-word : goal.invariant-loop-word
 invariant-loop-word l = record {
-  counted : l.length + length (flat_map (λ word. codes " " ++ word) (drop l.word-index l.words)) ≡ length (flat_map (λ word. codes " " ++ word) l.words);
+  counted : l.length + length (words_text (drop l.word-index l.words)) ≡ length (words_text l.words);
   small : l.length ≤ l.word-index * 2 ^ 65;
 }

@@ -1,5 +1,5 @@
 use Rattle.std.proofs.Common.{◌∙◌, sym}
-use Rattle.filter_engine.proofs.SameAttrs.{attrs_eq-Decides}
+use Rattle.attr_model.proofs.SameAttrs.{attrs_eq-Decides}
 use Rattle.filter_engine.proofs.evaluation.are_same.Goals as goal
 
 pub returns : goal.returns

@@ -3,7 +3,8 @@ use Rattle.conf_tree.specs.Cuts.{run}
 use Rattle.conf_lex.specs.declared.run.Taken.{Taken}
 use Rattle.conf_lex.specs.Views.{rules_of, seen_of}
 use Rattle.conf_lex.specs.Parts.{goes_on, taken_behind}
-use Rattle.conf_lex.proofs.Runs.{run_on, run_off, behind_on, behind_off, taken_more, taken_none}
+use Rattle.conf_tree.proofs.Runs.{run_on, run_off, behind_on, behind_off}
+use Rattle.conf_lex.proofs.Runs.{taken_more, taken_none}
 use Rattle.conf_lex.proofs.run.Taken.take_run.Goals as goal
 
 pub loop-seen-preserved : goal.loop-seen-preserved

@@ -8,9 +8,11 @@ use Rattle.net_base.specs.Order.{prefix_cmp}
 use Rattle.net_base.proofs.Order.{derived_prefix_cmp, prefixes-Contains}
 use Rattle.net_base.proofs.prefix_set.PrefixSet.has.Goals as goal
 
-pub returns : goal.returns
-returns c =
+pub returns-clause-value : goal.returns-clause-value
+returns-clause-value c =
     let Found : (Prefix → Prefix → Ordering) → Type 0 = λ order. c.contains.result ≡ list_any (eq_by_cmp order c.args.prefix) c.self.inside.prefixes.keys in
     let found : Found prefix_cmp = subst Found derived_prefix_cmp c.contains.ensures in
-    let here = found ∙ ap (list_any (eq_by_cmp prefix_cmp c.args.prefix)) c.self.view_is in
-    Decides-at c.contains.result _ here (prefixes-Contains c.args.prefix c.args.self.now)
+    found ∙ ap (list_any (eq_by_cmp prefix_cmp c.args.prefix)) c.self.view_is
+
+pub returns-clause-member : goal.returns-clause-member
+returns-clause-member c = Decides-at c.contains.result _ (returns-clause-value c) (prefixes-Contains c.args.prefix c.args.self.now)

@@ -1,0 +1,11 @@
+//! The routes that neighbours announced, by prefix and session (the Adj-RIBs-In of RFC 4271 section 3.2).
+#![tactic(auto)]
+
+mod row;
+mod table;
+
+pub use row::Entry;
+pub use table::AdjRibIn;
+
+#[cfg(test)]
+mod tests;

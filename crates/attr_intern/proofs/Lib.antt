@@ -1,0 +1,3 @@
+mod Equal
+mod KeptSteps
+pub mod Uses

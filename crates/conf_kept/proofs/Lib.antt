@@ -1,4 +1,0 @@
-pub mod Both
-pub mod Each
-pub mod InOrder
-pub mod GroupNames

@@ -1,2 +1,0 @@
-//! What every configuration keeps that a text of the language says, as definitions.
-#![tactic(auto)]

@@ -1,0 +1,12 @@
+mod Local
+mod Tests
+mod Values
+mod Loops
+mod Lists
+mod Items
+mod Neighbours
+mod Rules
+mod Statements
+mod Whole
+mod TextEnds
+mod Texts

@@ -1,0 +1,11 @@
+pub mod Both
+pub mod Each
+pub mod FirstLines
+pub mod GroupNames
+pub mod InOrder
+pub mod Joining
+pub mod LinesOn
+pub mod Orders
+pub mod Runs
+pub mod Sorted
+pub mod Takes

@@ -1,0 +1,33 @@
+ghost use Rattle.std.specs.Prelude.{◌≡◌};
+ghost use Rattle.frame_codec.specs.declared.fault.FrameFault.TheVariants.{BadFrame as Bad, NoMemory as Memory};
+
+use std::alloc::AllocError;
+use thiserror::Error;
+use wire_buf::Short;
+
+/// Why no frame was read.
+#[derive(Clone, Copy, Debug, PartialEq, Eq, Error)]
+pub enum FrameFault {
+    /// The payload isn't what is written for some frame of its kind, or there is no such kind.
+    #[error("a bad frame")]
+    BadFrame,
+    /// An allocation was refused.
+    #[error("no memory")]
+    NoMemory,
+}
+
+impl From<Short> for FrameFault {
+    ghost from_gives = { λ _ fault. fault ≡ Bad };
+
+    fn from(_short: Short) -> FrameFault {
+        FrameFault::BadFrame
+    }
+}
+
+impl From<AllocError> for FrameFault {
+    ghost from_gives = { λ _ fault. fault ≡ Memory };
+
+    fn from(_refused: AllocError) -> FrameFault {
+        FrameFault::NoMemory
+    }
+}

@@ -1,0 +1,89 @@
+-- The frames that a link holds.
+use Rattle.std.proofs.Common.{◌≡◌, ◌∙◌, ℕ, List, [], ◌∷◌, ◌++◌, take, drop, Option, Some, None, Ok, Err, Result, refl, ap, sym, append_assoc, append-nil}
+use Rattle.std.specs.Prelude.{flat_map}
+use Rattle.std.specs.List.{All}
+use Rattle.std.proofs.lemmas.List.{take-append-drop}
+use Rattle.std.proofs.lemmas.List.Concat.{flat_map-append}
+use Rattle.std.proofs.lemmas.List.Elements.{All-head, All-tail, All-push}
+use Rattle.imsg_wire.specs.declared.link.Link.{Link}
+use Rattle.imsg_wire.specs.declared.raw.Raw.{Raw}
+use Rattle.imsg_wire.specs.declared.raw.ImsgFault.{ImsgFault}
+use Rattle.imsg_wire.specs.declared.raw.ImsgFault.TheVariants as faults
+use Rattle.imsg_wire.specs.Frame.{frame_bytes, IsFrame, More, Whole, Bad, front_of, Takes}
+use Rattle.imsg_wire.specs.Holding.{Holds, GivesFirst}
+use Rattle.imsg_wire.proofs.Fronts.{front_of-append_whole, front_of-append_bad, front_of-written, front_of-nil}
+
+-- a frame that is appended is the last
+pub holds_appended : (old new : Link) (raws : List Raw) (raw : Raw) → Holds old raws → IsFrame raw →
+    new ≡ record old { coming = old.coming ++ frame_bytes raw } → Holds new (raws ++ raw ∷ [])
+holds_appended old new raws raw h fits e =
+    rw e (record {
+      whole = sym (append_assoc old.reader old.coming (frame_bytes raw)) ∙ ap (λ (x : List ℕ). x ++ frame_bytes raw) h.whole
+          ∙ sym (flat_map-append frame_bytes raws (raw ∷ []) ∙ ap (λ (x : List ℕ). flat_map frame_bytes raws ++ x) (append-nil (frame_bytes raw)));
+      each = All-push IsFrame raws raw h.each fits;
+    })
+
+-- bytes that move change nothing
+pub holds_moved : (n : ℕ) (old new : Link) (raws : List Raw) → new ≡ record { reader = old.reader ++ take n old.coming; coming = drop n old.coming } → Holds old raws → Holds new raws
+holds_moved n old new raws e h =
+    rw e (record {
+      whole = append_assoc old.reader (take n old.coming) (drop n old.coming)
+          ∙ ap (λ (x : List ℕ). old.reader ++ x) (take-append-drop n old.coming) ∙ h.whole;
+      each = h.each;
+    })
+
+same_link : (one other : Link) → one.reader ≡ other.reader → one.coming ≡ other.coming → one ≡ other
+same_link one other r c =
+    ap (λ (x : List ℕ). record { reader = x; coming = one.coming }) r ∙ ap (λ (x : List ℕ). record { reader = other.reader; coming = x }) c
+
+-- what stands at the front of frames that were written
+no_front : (bytes : List ℕ) (raws : List Raw) → bytes ≡ flat_map frame_bytes raws → raws ≡ [] → front_of bytes ≡ More
+no_front bytes raws e n = ap front_of (e ∙ ap (λ (x : List Raw). flat_map frame_bytes x) n) ∙ front_of-nil
+
+first_front : (bytes : List ℕ) (raw : Raw) (raws : List Raw) → bytes ≡ flat_map frame_bytes (raw ∷ raws) → All IsFrame (raw ∷ raws) → front_of bytes ≡ Whole raw (flat_map frame_bytes raws)
+first_front bytes raw raws e each = ap front_of e ∙ front_of-written raw (flat_map frame_bytes raws) (All-head IsFrame raw raws each)
+
+some_given : (old new : Link) (raw : Raw) (raws : List Raw) → front_of old.reader ≡ Whole raw new.reader → new.coming ≡ old.coming → Holds old raws → (others : List Raw) × ((raws ≡ raw ∷ others) × Holds new others)
+some_given old new raw [] t c h =
+    let more = no_front (old.reader ++ old.coming) [] h.whole refl in
+    let whole = front_of-append_whole old.reader old.coming raw new.reader t in
+    absurd cc
+some_given old new raw (first ∷ others) t c h =
+    let front = first_front (old.reader ++ old.coming) first others h.whole h.each in
+    let whole = front_of-append_whole old.reader old.coming raw new.reader t in
+    let same : Whole raw (new.reader ++ old.coming) ≡ Whole first (flat_map frame_bytes others) = sym whole ∙ front in
+    let is_first : first ≡ raw = cc in
+    let left : new.reader ++ old.coming ≡ flat_map frame_bytes others = cc in (
+      others,
+      (
+        ap (λ (x : Raw). x ∷ others) is_first,
+        record {
+          whole = ap (λ (x : List ℕ). new.reader ++ x) c ∙ left;
+          each = All-tail IsFrame first others h.each;
+        },
+      ),
+    )
+
+none_left : (old : Link) (raws : List Raw) → front_of old.reader ≡ More → Holds old raws → old.coming ≡ [] → raws ≡ []
+none_left old [] t h c = refl
+none_left old (raw ∷ raws) t h c =
+    let bytes : old.reader ≡ flat_map frame_bytes (raw ∷ raws) = sym (ap (λ (x : List ℕ). old.reader ++ x) c ∙ append-nil old.reader) ∙ h.whole in
+    let front = first_front old.reader raw raws bytes h.each in
+    absurd cc
+
+none_bad : (old : Link) (raws : List Raw) (size : ℕ) → front_of old.reader ≡ Bad size → Holds old raws → ⊥
+none_bad old [] size t h =
+    let more = no_front (old.reader ++ old.coming) [] h.whole refl in
+    let bad = front_of-append_bad old.reader old.coming size t in
+    cc
+none_bad old (raw ∷ raws) size t h =
+    let front = first_front (old.reader ++ old.coming) raw raws h.whole h.each in
+    let bad = front_of-append_bad old.reader old.coming size t in
+    cc
+
+-- the answers of a link that holds frames
+pub gives_first : (old new : Link) (raws : List Raw) (result : Result (Option Raw) ImsgFault) → Takes old.reader new.reader result → new.coming ≡ old.coming → Holds old raws → GivesFirst old new raws result
+gives_first old new raws (Ok (Some raw)) t c h = some_given old new raw raws t c h
+gives_first old new raws (Ok None) t c h = (same_link new old t.1 c, λ e. none_left old raws t.0 h e)
+gives_first old new raws (Err (faults.BadLength size)) t c h = none_bad old raws size t.0 h
+gives_first old new raws (Err faults.NoMemory) t c h = same_link new old t.1 c

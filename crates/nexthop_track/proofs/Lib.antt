@@ -1,0 +1,5 @@
+mod Coverings
+mod Blocks
+mod Routes
+mod Steps
+mod Tracked
