@@ -5,9 +5,9 @@ use Rattle.core_msgs.specs.declared.event.Event.{Event}
 use Rattle.event_text.specs.Grammar.{FileEnd, FileEvents, no_more, with_event, BadEvent, TooLong}
 use Rattle.event_text.specs.Lines.{answer_text}
 use Rattle.run_record.specs.Run.{History}
+use Rattle.run_record.specs.Answers.{step}
 use Rattle.cores_link.specs.declared.router.Router.{Router}
 use Rattle.cores_link.specs.Routers.{Stands}
-use Rattle.cores_link.specs.Standing.{step}
 use Rattle.bgpd_top.specs.Transcript.{events_of, text_of, with_events, Transcribes, TranscribesFront}
 use Rattle.bgpd_top.specs.ServeCauses.{EventServed, of_world}
 use Rattle.bgpd_top.specs.Serving.{Served, Ends}

@@ -6,10 +6,9 @@ use Rattle.core_msgs.specs.declared.event.Event.{Event}
 use Rattle.core_msgs.specs.declared.answer.Answer.{Answer}
 use Rattle.event_text.specs.Lines.{answer_text}
 use Rattle.run_record.specs.Run.{History}
-use Rattle.run_record.specs.Answers.{Answers}
+use Rattle.run_record.specs.Answers.{Answers, step}
 use Rattle.cores_link.specs.declared.router.Router.{Router}
 use Rattle.cores_link.specs.Routers.{Stands}
-use Rattle.cores_link.specs.Standing.{step}
 use Rattle.bgpd_top.specs.declared.replay.WorldFault.{WorldFault}
 use Rattle.bgpd_top.specs.declared.replay.WorldFault.TheVariants as world
 use Rattle.bgpd_top.specs.declared.serving.ServeFault.{ServeFault}

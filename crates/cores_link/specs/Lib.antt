@@ -1,4 +1,3 @@
 pub mod Generations
 pub mod Standing
 pub mod Routers
-pub mod Refusals

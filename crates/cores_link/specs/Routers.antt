@@ -1,15 +1,15 @@
 -- The Router stands for a history: what it keeps is what the history says.
-use Rattle.std.specs.Prelude.{◌≡◌, ℕ, ◌+◌, ◌-◌, ◌^◌, Bool, false, [], ◌∷◌, length, min, Option, Some, None}
-use Rattle.core_msgs.specs.EventText.{event_text}
+use Rattle.std.specs.Prelude.{◌≡◌, ℕ, ◌+◌, Bool, false, ◌∷◌, length, Option, Some, None}
 use Rattle.core_msgs.specs.declared.event.Event.{Event}
 use Rattle.core_msgs.specs.declared.answer.Answer.{Answer}
 use Rattle.core_msgs.specs.declared.parts.Part.TheVariants.{Reload}
 use Rattle.run_record.specs.Run.{History}
-use Rattle.run_record.specs.Answers.{Answers}
+use Rattle.run_record.specs.Answers.{Answers, step}
+use Rattle.run_record.specs.Limits.{size, with_size}
 use Rattle.cores_link.specs.declared.router.Router.{Router}
 use Rattle.cores_link.specs.declared.router.Quiet.{Quiet}
 use Rattle.cores_link.specs.declared.router.Quiet.TheVariants.{Yes, Pending}
-use Rattle.cores_link.specs.Standing.{AcceptedBy, step}
+use Rattle.cores_link.specs.Standing.{AcceptedBy}
 
 -- how many events were taken
 abbrev pub events_taken : Router → ℕ
@@ -18,15 +18,6 @@ events_taken r = r.events
 -- whether memory ran out in a call
 abbrev pub is_spent : Router → Bool
 is_spent r = r.spent
-
--- one more event and its size, a count that stays at the last value of its type
-abbrev pub with_size : ℕ → Event → ℕ
-with_size size event = min (min (size + 1) (2 ^ 128 - 1) + length (event_text event)) (2 ^ 128 - 1)
-
--- the sum of one plus the size of each event
-abbrev pub size : History → ℕ
-size [] = 0
-size (step ∷ before) = with_size (size before) step.event
 
 -- what the Router keeps is what the history says
 pub record Stands (r : Router) (h : History) : Type 0 where

@@ -1,6 +1,6 @@
-ghost use Rattle.cores_link.specs.Refusals.{IsRefusal};
+ghost use Rattle.run_record.specs.Answers.{IsRefusal};
 ghost use Rattle.std.specs.Prelude.{◌≡◌, ◌+◌, ◌<◌, ◌≤◌, ◌^◌, ◌∷◌, [], true, map, IfOk, IsTrue, ◌↔◌};
-ghost use Rattle.run_record.specs.Answers.{only, refused, reload_reports, are_show_rib, show_rib_answer};
+ghost use Rattle.run_record.specs.Answers.{only, refused, reload_reports, are_show_rib, AnswersShowRib};
 
 use crate::reader;
 use attr_model::{RouteList, RouteRow};
@@ -22,9 +22,9 @@ pub struct Accepted {
 
 impl Accepted {
     ghost use Rattle.cores_link.specs.Generations.{accepted_generation};
-    ghost use Rattle.cores_link.specs.Standing.{AcceptedBy, Follows, step};
+    ghost use Rattle.cores_link.specs.Standing.{AcceptedBy, Follows};
     ghost use Rattle.core_msgs.specs.declared.event.Event.TheVariants.{Reload, Settle, Ctl};
-    ghost use Rattle.run_record.specs.Run.{History, under_way, conf};
+    ghost use Rattle.run_record.specs.Run.{History, under_way};
 
     /// The empty configuration, with nothing under way.
     pub fn new(alloc: Global) -> Self
@@ -106,7 +106,7 @@ impl Accepted {
     }
 
     fn show_rib(&self, alloc: Global) -> Result<Answer, NoMemory>
-        ensures { IfOk result (λ answer. (h : History) → AcceptedBy self.now h → answer ≡ show_rib_answer (under_way h) (conf h)) }
+        ensures { IfOk result (λ answer. (h : History) → AcceptedBy self.now h → AnswersShowRib h answer) }
     {
         if self.under_way {
             return Ok(only(alloc, Line::Pending(PartName::Reload)));

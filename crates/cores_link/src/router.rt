@@ -1,5 +1,5 @@
 ghost use Rattle.cores_link.specs.Generations.{accepted_generation};
-ghost use Rattle.cores_link.specs.Refusals.{IsRefusal};
+ghost use Rattle.run_record.specs.Answers.{IsRefusal};
 ghost use Rattle.std.specs.Prelude.{◌≡◌, ◌+◌, ◌<◌, ◌≤◌, ◌^◌, ◌∷◌, [], IfOk, OnOk, OnErr, false, IsErrOf, IsTrue, ◌↔◌};
 
 use crate::accepted::Accepted;

@@ -1,6 +1,7 @@
--- What each event is answered, by what happened before it.
-use Rattle.std.specs.Prelude.{◌≡◌, ◌⊎◌, ℕ, ◌+◌, Bool, false, ◌&&◌, List, [], ◌∷◌, map, Option, Some, None, Result, Ok, Err, if◌then◌else◌, codes, bytes_eq}
+-- What each event may be answered, by what happened before it.
+use Rattle.std.specs.Prelude.{◌≡◌, ◌⊎◌, ℕ, ◌+◌, Bool, false, ◌&&◌, List, [], ◌∷◌, map, filter, Option, Some, None, IfSome, IfNone, Result, Ok, Err, if◌then◌else◌, codes, bytes_eq, true}
 use Rattle.net_base.specs.declared.conf.ConfFault.{ConfFault}
+use Rattle.net_base.specs.declared.addr.Addr.{Addr}
 use Rattle.conf_tree.specs.declared.conf.Conf.{Conf}
 use Rattle.run_record.specs.Taken.{taken}
 use Rattle.core_msgs.specs.declared.event.Event.{Event}
@@ -13,7 +14,11 @@ use Rattle.core_msgs.specs.declared.answer.Refusal.{Refusal}
 use Rattle.core_msgs.specs.declared.answer.Refusal.TheVariants as refusal
 use Rattle.core_msgs.specs.declared.parts.PartName.TheVariants as part
 use Rattle.route_world.specs.Networks.{network_rows}
-use Rattle.run_record.specs.Run.{History, generation, under_way, conf}
+use Rattle.run_record.specs.Run.{History, Step, generation, under_way, conf}
+use Rattle.run_record.specs.Worlds.{IsRight}
+
+abbrev pub step : Event → Answer → Step
+step event answer = record { event = event; answer = answer }
 
 -- a last line without report lines before it
 abbrev pub only : Line → Answer
@@ -22,42 +27,86 @@ only last = record { lines = []; last = last }
 abbrev pub refused : Refusal → Answer
 refused why = only (line.Refused why)
 
--- A reload is refused while one is under way, or for its text's fault; else it gets the next generation.
-abbrev pub reload_answer : Option ℕ → ℕ → Result Conf ConfFault → Answer
-reload_answer (Some generation) last read = refused (refusal.UnderWay generation)
-reload_answer None last (Err fault) = only (line.RefusedText fault)
-reload_answer None last (Ok conf) = only (line.OkGeneration (last + 1))
+-- the line refuses its event
+abbrev pub IsRefusalLine : Line → Type 0
+IsRefusalLine (line.RefusedText fault) = Unit {0}
+IsRefusalLine (line.Refused why) = Unit {0}
+IsRefusalLine _ = ⊥
 
--- what the parts report of a reload that is under way: the session core, the decision core, the end
+abbrev pub IsRefusal : Answer → Type 0
+IsRefusal answer = IsRefusalLine answer.last
+
+-- ---- reload
+
+-- a text with a fault is refused for it, and a configuration gets the generation behind this one
+abbrev pub IsReadingOf : Result Conf ConfFault → ℕ → Line → Type 0
+IsReadingOf (Err fault) last answer = answer ≡ line.RefusedText fault
+IsReadingOf (Ok conf) last answer = answer ≡ line.OkGeneration (last + 1)
+
+-- A reload is answered in one line. It is refused while another is under way, for want of memory, or for its text's first fault;
+-- otherwise its configuration gets the next generation.
+pub record AnswersReload (before : History) (text : List ℕ) (answer : Answer) : Type 0 where
+  pub reports : answer.lines ≡ []
+  pub busy : IfSome (under_way before) (λ other. answer.last ≡ line.Refused (refusal.UnderWay other))
+  pub idle : IfNone (under_way before) ((answer.last ≡ line.Refused refusal.NoMemory) ⊎ IsReadingOf (taken text) (generation before) answer.last)
+
+-- ---- settle
+
+-- what is told of a reload that is done: by the session core, by the decision core, and in the end
 abbrev pub reload_reports : Option ℕ → List Line
 reload_reports None = []
 reload_reports (Some generation) = line.AppliedSession generation ∷ line.AppliedDecision generation ∷ line.Reloaded generation ∷ []
 
--- the rows of Loc-RIB, where nothing is under way: without sessions they are those of the networks
-abbrev pub show_rib_answer : Option ℕ → Conf → Answer
-show_rib_answer (Some generation) conf = only (line.Pending part.Reload)
-show_rib_answer None conf = record { lines = map (λ r. line.Row (row.Route r)) (network_rows conf); last = line.Ok }
+abbrev pub is_reload_report : Line → Bool
+is_reload_report (line.AppliedSession generation) = true
+is_reload_report (line.AppliedDecision generation) = true
+is_reload_report (line.Reloaded generation) = true
+is_reload_report _ = false
+
+-- the neighbours that the last line of a settle excepts
+abbrev pub excepted : Line → List Addr
+excepted (line.QuietExcept peers) = peers
+excepted _ = []
+
+abbrev pub SaysQuiet : Line → Type 0
+SaysQuiet line.Quiet = Unit {0}
+SaysQuiet (line.QuietExcept peers) = Unit {0}
+SaysQuiet _ = ⊥
+
+-- A settle ends quiet. The reload that was under way is done, with its reports once each and in their order, and what was sent is
+-- right then.
+pub record AnswersSettle (before : History) (answer : Answer) : Type 0 where
+  pub quiet : SaysQuiet answer.last
+  pub done : under_way (step event.Settle answer ∷ before) ≡ None
+  pub reports : filter is_reload_report answer.lines ≡ reload_reports (under_way before)
+  pub right : IsRight (step event.Settle answer ∷ before) (excepted answer.last)
+
+-- ---- shows
 
 -- whether the words are `show rib`
 abbrev pub are_show_rib : List (List ℕ) → Bool
 are_show_rib (first ∷ second ∷ []) = bytes_eq first (codes "show") && bytes_eq second (codes "rib")
 are_show_rib _ = false
 
--- what an event is answered behind a history, want of memory apart
-abbrev pub answer_to : History → Event → Answer
-answer_to before (event.Reload text) = reload_answer (under_way before) (generation before) (taken text)
-answer_to before event.Settle = record { lines = reload_reports (under_way before); last = line.Quiet }
-answer_to before (event.Ctl words) = if are_show_rib words then show_rib_answer (under_way before) (conf before) else refused refusal.NotBuilt
-answer_to before _ = refused refusal.NotBuilt
+-- Loc-RIB is shown where nothing is left to do: without sessions its rows are those of the networks of the last accepted
+-- configuration.
+pub record AnswersShowRib (before : History) (answer : Answer) : Type 0 where
+  pub busy : IfSome (under_way before) (λ other. answer ≡ only (line.Pending part.Reload))
+  pub idle : IfNone (under_way before)
+      (answer ≡ record { lines = map (λ r. line.Row (row.Route r)) (network_rows (conf before)); last = line.Ok })
 
--- memory may be refused to a reload that would be read
-abbrev pub MayWantMemory : History → Event → Type 0
-MayWantMemory before (event.Reload text) = under_way before ≡ None
-MayWantMemory before _ = ⊥
+-- ---- every event
 
--- the event may be answered so behind the history
+abbrev pub AnswersControl : Bool → History → Answer → Type 0
+AnswersControl true before answer = AnswersShowRib before answer
+AnswersControl false before answer = answer ≡ refused refusal.NotBuilt
+
+-- The event may be answered so behind the history. What isn't built yet is refused.
 abbrev pub Answers : History → Event → Answer → Type 0
-Answers before event answer = (answer ≡ answer_to before event) ⊎ (MayWantMemory before event × (answer ≡ refused refusal.NoMemory))
+Answers before (event.Reload text) answer = AnswersReload before text answer
+Answers before event.Settle answer = AnswersSettle before answer
+Answers before (event.Ctl words) answer = AnswersControl (are_show_rib words) before answer
+Answers before _ answer = answer ≡ refused refusal.NotBuilt
 
 -- each event was answered so
 abbrev pub IsRun : History → Type 0

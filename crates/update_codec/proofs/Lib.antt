@@ -1,8 +1,9 @@
-pub mod Bytes
-pub mod ReadBack
-pub mod Plain
-pub mod Stream
-pub mod ReadValid
-pub mod HeldValid
-pub mod Going
-pub mod LastWord
+mod Bytes
+mod ReadBack
+mod Plain
+mod Stream
+mod ReadValid
+mod HeldValid
+mod Going
+mod LastWord
+mod TypesAscend

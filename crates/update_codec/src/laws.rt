@@ -1,4 +1,8 @@
-ghost use Rattle.std.specs.Prelude.{◌≡◌, ℕ, List, [], ◌∷◌, ◌++◌, fold, flat_map, length, Ok, None, IfOk};
+ghost use Rattle.std.specs.Prelude.{◌≡◌, ℕ, List, [], ◌∷◌, ◌++◌, fold, flat_map, length, map, Ok, None, IfOk};
+ghost use Rattle.std.specs.Ordering.{nat_cmp};
+ghost use Rattle.attr_model.specs.declared.attrs.Attrs.{Attrs};
+ghost use Rattle.attr_model.specs.Valid.{IsValid};
+ghost use Rattle.attr_codec.specs.Written.{Row, attrs_rows};
 ghost use Rattle.std.specs.List.{AllByRecursion};
 ghost use Rattle.std.specs.List.Sorted.{IsStrictlySortedBy};
 ghost use Rattle.std.specs.BTreeMap.{is_at};
@@ -59,4 +63,11 @@ pub fn held_by_last_word()
     ensures route { (updates : List Update) (prefix : Prefix) →
         lookup (is_at (prefix_cmp prefix)) (held updates)
         ≡ last_word prefix (flat_map words_of updates) }
+{}
+
+/// The attributes that are sent with a route ascend by type, each type once (RFC 4271 section 5); those of RFC 4760 stand in
+/// front of them.
+pub fn written_types_ascend()
+    ensures { (enc : Encoding) (attrs : Attrs) → IsValid attrs →
+        IsStrictlySortedBy nat_cmp (map (λ (row : Row). row.kind) (attrs_rows enc attrs)) }
 {}

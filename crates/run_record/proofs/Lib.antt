@@ -1,0 +1,4 @@
+mod Generations
+mod Refused
+mod Rows
+pub mod Nobody
