@@ -5,3 +5,4 @@ pub mod Table
 pub mod Calls
 pub mod Tables
 pub mod Units
+pub mod Agreement

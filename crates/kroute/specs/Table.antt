@@ -1,14 +1,13 @@
 -- One kernel table: what is wanted of it, and how it stands.
-use Rattle.std.specs.Prelude.{◌≡◌, Bool, true, false, not, ◌&&◌, List, [], Option, Some, None, is_some}
+use Rattle.std.specs.Prelude.{Bool, true, false, List, [], is_some}
 use Rattle.std.specs.BTreeMap.{insert_entry, is_at}
 use Rattle.std.specs.Map.{remove_entry}
 use Rattle.net_base.specs.declared.addr.Addr.{Addr}
 use Rattle.net_base.specs.declared.prefix.Prefix.{Prefix}
 use Rattle.net_base.specs.Order.{prefix_cmp}
-use Rattle.net_base.specs.PrefixSet.{is_in}
 use Rattle.kroute.specs.declared.phase.Phase.{Phase}
 use Rattle.kroute.specs.declared.phase.Phase.TheVariants.{New, Listing, Coupled, Clearing, Lost}
-use Rattle.kroute.specs.Rows.{Rows}
+use Rattle.kroute.specs.Rows.{Rows, IsSetOf}
 use Rattle.kroute.specs.Phases.{row_at, differ, with_work, decoupled}
 
 -- the rows that are wanted, by prefix, and how the table stands
@@ -39,19 +38,15 @@ decouples t = record t { phase = decoupled t.phase }
 abbrev pub loses : TableState → TableState
 loses t = record t { phase = Lost }
 
--- The set has exactly the prefixes that pass.
-abbrev pub Has : List Prefix → (Prefix → Bool) → Type 0
-Has ps test = (q : Prefix) → is_in ps q ≡ test q
-
 -- What a list of rows leaves to be done: of a coupled table each row that differs from what is wanted, of one that was
 -- decoupled again all of them.
 abbrev pub IsListed : Bool → Rows → Rows → Phase → Type 0
-IsListed true wanted rows (Coupled known job) = Has known (λ q. is_some (row_at rows q)) × Has job (λ q. differ (row_at rows q) (row_at wanted q))
+IsListed true wanted rows (Coupled known job) = IsSetOf known (λ q. is_some (row_at rows q)) × IsSetOf job (λ q. differ (row_at rows q) (row_at wanted q))
 IsListed true wanted rows New = ⊥
 IsListed true wanted rows (Listing coupled) = ⊥
 IsListed true wanted rows (Clearing job) = ⊥
 IsListed true wanted rows Lost = ⊥
-IsListed false wanted rows (Clearing job) = Has job (λ q. is_some (row_at rows q))
+IsListed false wanted rows (Clearing job) = IsSetOf job (λ q. is_some (row_at rows q))
 IsListed false wanted rows New = ⊥
 IsListed false wanted rows (Listing coupled) = ⊥
 IsListed false wanted rows (Coupled known job) = ⊥

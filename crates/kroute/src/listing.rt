@@ -4,8 +4,8 @@ ghost use Rattle.net_base.specs.declared.addr.Addr.{Addr};
 ghost use Rattle.net_base.specs.declared.prefix.Prefix.{Prefix};
 ghost use Rattle.net_base.specs.PrefixSet.{is_in};
 ghost use Rattle.kroute.specs.Phases.{differ, row_at};
-ghost use Rattle.kroute.specs.Rows.{IsByPrefix};
-ghost use Rattle.kroute.specs.Table.{Has, IsListed};
+ghost use Rattle.kroute.specs.Rows.{IsByPrefix, IsInOrder, IsSetOf};
+ghost use Rattle.kroute.specs.Table.{IsListed};
 
 use crate::phase::Phase;
 use crate::HopList;
@@ -35,7 +35,7 @@ pub(crate) fn listed(
 
 /// The prefixes of the rows.
 fn prefixes_of(alloc: Global, rows: &HopList) -> Result<PrefixSet, NoMemory>
-    ensures { IfOk result (λ known. Has known (λ q. is_some (row_at rows.now q))) }
+    ensures { IfOk result (λ known. IsSetOf known (λ q. is_some (row_at rows.now q))) }
 {
     let mut known = PrefixSet::new(alloc);
     for (prefix, _) in rows.iter() {
@@ -51,7 +51,7 @@ fn differing(
     rows: &HopList,
 ) -> Result<PrefixSet, NoMemory>
     requires { IsByPrefix rows.now }
-    ensures { IfOk result (λ job. Has job (λ q. is_some (row_at rows.now q)
+    ensures { IfOk result (λ job. IsSetOf job (λ q. is_some (row_at rows.now q)
         && differ (row_at rows.now q) (row_at wanted.now.entries q))) }
 {
     let mut job = PrefixSet::new(alloc);
@@ -86,8 +86,9 @@ fn add_missing(
     wanted: &BTreeMap<Prefix, Addr>,
     known: &PrefixSet,
 ) -> Result<(), NoMemory>
-    ensures { OnOk result (Has job.new (λ q. is_in job.old q
+    ensures has { OnOk result ((q : Prefix) → is_in job.new q ≡ (is_in job.old q
         || (is_some (row_at wanted.now.entries q) && not (is_in known.now q)))) }
+    ensures in_order { IsInOrder job.old → IsInOrder job.new }
 {
     for (prefix, _) in wanted.iter() {
         if !known.has(*prefix) {
