@@ -128,7 +128,7 @@ set_fits known job wanted rows p hop is fits = record {
   are_known = record {
     in_order = sorted_insert prefix_cmp-total known p fits.are_known.in_order;
     has = λ q. any_inserted prefix_cmp-total q p known ∙ ap (λ b. eq_by_cmp prefix_cmp q p || b) (fits.are_known.has q) ∙ now_there (eq_by_cmp prefix_cmp q p) hop (row_at rows q)
-      ∙ sym (ap is_some (lookup_inserted prefix_cmp-total q p hop rows));
+        ∙ sym (ap is_some (lookup_inserted prefix_cmp-total q p hop rows));
   };
   in_order = sorted_remove prefix_cmp (λ q. is_at (prefix_cmp p) q) job fits.in_order;
   right = λ q none. lookup_inserted prefix_cmp-total q p hop rows ∙ go q (eq_by_cmp prefix_cmp q p) refl (sym (any_removed prefix_cmp-total q p job fits.in_order) ∙ none);
@@ -146,7 +146,7 @@ del_fits known job wanted rows p is fits = record {
   are_known = record {
     in_order = sorted_remove prefix_cmp (λ q. is_at (prefix_cmp p) q) known fits.are_known.in_order;
     has = λ q. any_removed prefix_cmp-total q p known fits.are_known.in_order ∙ ap (λ b. not (eq_by_cmp prefix_cmp q p) && b) (fits.are_known.has q) ∙ now_gone (eq_by_cmp prefix_cmp q p) (row_at rows q)
-      ∙ sym (ap is_some (lookup_removed prefix_cmp-total q p rows fits.by_prefix));
+        ∙ sym (ap is_some (lookup_removed prefix_cmp-total q p rows fits.by_prefix));
   };
   in_order = sorted_remove prefix_cmp (λ q. is_at (prefix_cmp p) q) job fits.in_order;
   right = λ q none. lookup_removed prefix_cmp-total q p rows fits.by_prefix ∙ go q (eq_by_cmp prefix_cmp q p) refl (sym (any_removed prefix_cmp-total q p job fits.in_order) ∙ none);
@@ -162,7 +162,7 @@ cleared_fits job rows p fits = record {
   are_left = record {
     in_order = sorted_remove prefix_cmp (λ q. is_at (prefix_cmp p) q) job fits.are_left.in_order;
     has = λ q. any_removed prefix_cmp-total q p job fits.are_left.in_order ∙ ap (λ b. not (eq_by_cmp prefix_cmp q p) && b) (fits.are_left.has q) ∙ now_gone (eq_by_cmp prefix_cmp q p) (row_at rows q)
-      ∙ sym (ap is_some (lookup_removed prefix_cmp-total q p rows fits.by_prefix));
+        ∙ sym (ap is_some (lookup_removed prefix_cmp-total q p rows fits.by_prefix));
   };
 }
 
@@ -234,8 +234,10 @@ sets_agree held held_then o n old new sets others own agrees m t rows there told
   where
     set : (b : Bool) → is_at (nat_cmp n) m ≡ b → cond b o (table_at old m) ≡ Some t
     set b is = sym (ap (λ (c : Bool). cond c o (table_at old m)) is) ∙ sym (sets m) ∙ there
+
     apart : is_at (nat_cmp n) m ≡ false → m ≡ n → ⊥
     apart is e = true≢false (sym ((eq_by_cmp_equiv nat_cmp_total).refl n) ∙ ap (λ (k : ℕ). is_at (nat_cmp n) k) (sym e) ∙ is)
+
     go : (b : Bool) → is_at (nat_cmp n) m ≡ b → Fits t.phase t.wanted rows
     go true is = own t rows (set true is) (ap held_then (same_number n m is) ∙ told)
     go false is = agrees m t rows (set false is) (sym (others m (apart is)) ∙ told)

@@ -1,5 +1,5 @@
 -- Lists of rows and of tables, by their keys.
-use Rattle.std.proofs.Common.{◌≡◌, ℕ, Bool, true, false, cond, List, [], ◌∷◌, Option, Some, None, Result, Ok, Err, OnErr, is_some, is_err, inl, inr, refl, sym, ap, ◌∙◌, subst, true≢false, Contains}
+use Rattle.std.proofs.Common.{◌≡◌, ◌⊎◌, ℕ, Bool, true, false, cond, List, [], ◌∷◌, Option, Some, None, Result, Ok, Err, OnErr, is_some, is_err, inl, inr, refl, sym, ap, ◌∙◌, subst, true≢false, Contains}
 use Rattle.std.specs.BTreeMap.{is_at, insert_entry}
 use Rattle.std.specs.Cmp.{IsTotalOrder, eq_by_cmp_equiv, nat_cmp_total}
 use Rattle.std.specs.List.Sorted.{IsStrictlySortedBy}
@@ -8,7 +8,7 @@ use Rattle.std.specs.Ordering.{is_eq, eq_by_cmp, nat_cmp, match_ordering}
 use Rattle.std.specs.declared.cmp.Ordering.{Ordering}
 use Rattle.std.specs.declared.cmp.Ordering.TheVariants.{Less, Equal, Greater}
 use Rattle.std.proofs.lemmas.Map.{lookup-none}
-use Rattle.std.proofs.lemmas.Map.Entries.{none_past_head}
+use Rattle.std.proofs.lemmas.Map.Entries.{none_below_head, none_past_head}
 use Rattle.std.proofs.lemmas.Map.Keys.{sorted_tail, IsDistinct-from_sorted}
 use Rattle.net_base.specs.declared.addr.Addr.{Addr}
 use Rattle.net_base.specs.declared.prefix.Prefix.{Prefix}
@@ -18,8 +18,7 @@ use Rattle.kroute.specs.declared.phase.Work.{Work}
 use Rattle.kroute.specs.Calls.{IsNext}
 use Rattle.kroute.specs.Rows.{Rows, IsByPrefix}
 use Rattle.kroute.specs.Table.{TableState}
-use Rattle.kroute.specs.Tables.{TablesState, IsFirst}
-use Rattle.kroute.specs.Units.{HasNext}
+use Rattle.kroute.specs.Tables.{HasNext, TablesState}
 
 pub none_by_prefix : IsByPrefix []
 unfolding IsStrictlySortedBy
@@ -39,6 +38,7 @@ set_same {K} {X} test (e ∷ es) v h = go (set_same test es v) (test e.0) h
   where
     one : Some e.1 ≡ Some v → v ≡ e.1
     one s = cc
+
     go : (lookup test es ≡ Some v → set_value test es v ≡ es) → (b : Bool) → cond b (Some e.1) (lookup test es) ≡ Some v → cond b ((e.0, v) ∷ es) (e ∷ set_value test es v) ≡ e ∷ es
     go rec true s = ap (λ (x : X). (e.0, x) ∷ es) (one s)
     go rec false s = ap (λ (xs : List (K × X)). e ∷ xs) (rec s)
@@ -50,6 +50,7 @@ put_and_taken {K} {X} cmp k v (e ∷ es) same h = go (put_and_taken cmp k v es s
   where
     no : Some e.1 ≡ None → ⊥
     no s = cc
+
     go : (lookup (is_at (cmp k)) es ≡ None → remove_entry (is_at (cmp k)) (insert_entry cmp es k v) ≡ es) → (o : Ordering) → cmp k e.0 ≡ o → cond (is_eq o) (Some e.1) (lookup (is_at (cmp k)) es) ≡ None
         → remove_entry (is_at (cmp k)) (match_ordering o ((k, v) ∷ e ∷ es) ((e.0, v) ∷ es) (e ∷ insert_entry cmp es k v)) ≡ e ∷ es
     go rec Less is none = ap (λ b. cond b (e ∷ es) ((k, v) ∷ remove_entry (is_at (cmp k)) (e ∷ es))) same
@@ -62,21 +63,52 @@ no_call call s = cc
 one_call : (a b : ℕ × Work) → Some a ≡ Some b → a ≡ b
 one_call a b s = cc
 
--- the first table with a job is there, and its call is the next
+-- The first table in order of number that has a job, with its next call.
+abbrev pub IsFirst : List (ℕ × TableState) → Option (ℕ × Work) → Type 0
+IsFirst [] found = found ≡ None
+IsFirst (e ∷ es) found = (IsNext e.1.phase None × IsFirst es found) ⊎ ((work : Work) × IsNext e.1.phase (Some work) × (found ≡ Some (e.0, work)))
+
+some_table : (a b : TableState) → Some a ≡ Some b → a ≡ b
+some_table a b s = cc
+
+no_table : (t : TableState) → None ≡ Some t → ⊥
+no_table t s = cc
+
+-- it is there, and its call is the next
 pub first_there : (es : List (ℕ × TableState)) (n : ℕ) (work : Work) → IsStrictlySortedBy nat_cmp (keys_of es) → IsFirst es (Some (n, work)) → HasNext work (lookup (is_at (nat_cmp n)) es)
 first_there [] n work sorted h = absurd (no_call (n, work) h)
 first_there (e ∷ es) n work sorted (inl (idle, more)) = go (first_there es n work (sorted_tail nat_cmp e.0 (keys_of es) sorted) more) (is_eq (nat_cmp n e.0)) refl
   where
     go : HasNext work (lookup (is_at (nat_cmp n)) es) → (b : Bool) → is_eq (nat_cmp n e.0) ≡ b → HasNext work (cond b (Some e.1) (lookup (is_at (nat_cmp n)) es))
     go found false is = found
-    go (t, there, next) true is = absurd (no (sym there ∙ lookup-none (is_at (nat_cmp n)) es (none_past_head (eq_by_cmp_equiv nat_cmp_total) n e es (IsDistinct-from_sorted nat_cmp (keys_of (e ∷ es)) sorted) is)))
-      where
-        no : Some t ≡ None → ⊥
-        no s = cc
+    go (t, there, next) true is = absurd (no_table t (sym (lookup-none (is_at (nat_cmp n)) es (none_past_head (eq_by_cmp_equiv nat_cmp_total) n e es (IsDistinct-from_sorted nat_cmp (keys_of (e ∷ es)) sorted) is)) ∙ there))
 first_there (e ∷ es) n work sorted (inr (other, next, is)) =
     let both = one_call (n, work) (e.0, other) is in
     let same : is_eq (nat_cmp n e.0) ≡ true = ap (λ (call : ℕ × Work). is_eq (nat_cmp n call.0)) (sym both) ∙ (eq_by_cmp_equiv nat_cmp_total).refl n in
     (e.1, ap (λ b. cond b (Some e.1) (lookup (is_at (nat_cmp n)) es)) same, subst (λ (call : ℕ × Work). IsNext e.1.phase (Some call.1)) (sym both) next)
+
+-- no table below it has a job
+pub none_below : (es : List (ℕ × TableState)) (n : ℕ) (work : Work) → IsStrictlySortedBy nat_cmp (keys_of es) → IsFirst es (Some (n, work))
+    → (m : ℕ) (t : TableState) → nat_cmp m n ≡ Less → lookup (is_at (nat_cmp m)) es ≡ Some t → IsNext t.phase None
+none_below [] n work sorted h m t less there = absurd (no_table t there)
+none_below (e ∷ es) n work sorted (inl (idle, more)) m t less there = go (λ is. none_below es n work (sorted_tail nat_cmp e.0 (keys_of es) sorted) more m t less is) (is_eq (nat_cmp m e.0)) there
+  where
+    go : (lookup (is_at (nat_cmp m)) es ≡ Some t → IsNext t.phase None) → (b : Bool) → cond b (Some e.1) (lookup (is_at (nat_cmp m)) es) ≡ Some t → IsNext t.phase None
+    go rec true is = subst (λ (u : TableState). IsNext u.phase None) (some_table e.1 t is) idle
+    go rec false is = rec is
+none_below (e ∷ es) n work sorted (inr (other, next, is)) m t less there =
+    let lower : nat_cmp m e.0 ≡ Less = ap (λ (call : ℕ × Work). nat_cmp m call.0) (sym (one_call (n, work) (e.0, other) is)) ∙ less in
+    absurd (no_table t (sym (lookup-none (is_at (nat_cmp m)) (e ∷ es) (none_below_head nat_cmp_total m e es sorted lower)) ∙ there))
+
+-- no table has a job
+pub none_first : (es : List (ℕ × TableState)) → IsFirst es None → (m : ℕ) (t : TableState) → lookup (is_at (nat_cmp m)) es ≡ Some t → IsNext t.phase None
+none_first [] h m t there = absurd (no_table t there)
+none_first (e ∷ es) (inl (idle, more)) m t there = go (λ is. none_first es more m t is) (is_eq (nat_cmp m e.0)) there
+  where
+    go : (lookup (is_at (nat_cmp m)) es ≡ Some t → IsNext t.phase None) → (b : Bool) → cond b (Some e.1) (lookup (is_at (nat_cmp m)) es) ≡ Some t → IsNext t.phase None
+    go rec true is = subst (λ (u : TableState). IsNext u.phase None) (some_table e.1 t is) idle
+    go rec false is = rec is
+none_first (e ∷ es) (inr (other, next, is)) m t there = absurd (no_call (e.0, other) (sym is))
 
 abbrev pub table_of : Rows → Phase → TableState
 table_of wanted phase = record { wanted = wanted; phase = phase }

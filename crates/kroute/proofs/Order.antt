@@ -92,11 +92,13 @@ any_inserted {K} {R} o q k (x ∷ xs) = go (any_inserted o q k xs) (R k x) refl
     twice false false c e = refl
     twice true false c e = absurd (true≢false e)
     twice false true c e = absurd (true≢false (sym e))
+
     swap : (a b c : Bool) → (a || (b || c)) ≡ (b || (a || c))
     swap true true c = refl
     swap true false c = refl
     swap false true c = refl
     swap false false c = refl
+
     go : list_any (eq_by_cmp R q) (insert_key R xs k) ≡ (eq_by_cmp R q k || list_any (eq_by_cmp R q) xs) → (c : Ordering) → R k x ≡ c
         → list_any (eq_by_cmp R q) (match_ordering c (k ∷ x ∷ xs) (x ∷ xs) (x ∷ insert_key R xs k)) ≡ (eq_by_cmp R q k || (eq_by_cmp R q x || list_any (eq_by_cmp R q) xs))
     go rec Less is = refl
@@ -131,6 +133,7 @@ any_removed {K} {R} o q k (x ∷ xs) s = go (any_removed o q k xs (sorted_tail R
   where
     apart : (c : Ordering) → R k x ≡ c → is_eq c ≡ false → eq_by_cmp R q k ≡ true → eq_by_cmp R q x ≡ false
     apart c is other same = ap is_eq (o.congr q k x (equal_of (R q k) same) ∙ is) ∙ other
+
     go : list_any (eq_by_cmp R q) (remove_key (λ p. is_at (R k) p) xs) ≡ (not (eq_by_cmp R q k) && list_any (eq_by_cmp R q) xs) → (c : Ordering) → R k x ≡ c
         → list_any (eq_by_cmp R q) (cond (is_eq c) xs (x ∷ remove_key (λ p. is_at (R k) p) xs)) ≡ (not (eq_by_cmp R q k) && (eq_by_cmp R q x || list_any (eq_by_cmp R q) xs))
     go rec Less is = ap (λ b. eq_by_cmp R q x || b) rec ∙ miss (eq_by_cmp R q x) (eq_by_cmp R q k) (list_any (eq_by_cmp R q) xs) (apart Less is refl)
@@ -149,9 +152,11 @@ lookup_inserted {K} {X} {R} o q k v (e ∷ es) = go (lookup_inserted o q k v es)
     both false false v w l h = refl
     both true false v w l h = absurd (true≢false h)
     both false true v w l h = absurd (true≢false (sym h))
+
     swap : (a b : Bool) (v w : X) (l : Option X) → (b ≡ true → a ≡ false) → cond a (Some w) (cond b (Some v) l) ≡ cond b (Some v) (cond a (Some w) l)
     swap a true v w l h = ap (λ (c : Bool). cond c (Some w) (Some v)) (h refl)
     swap a false v w l h = refl
+
     go : lookup (is_at (R q)) (insert_entry R es k v) ≡ cond (eq_by_cmp R q k) (Some v) (lookup (is_at (R q)) es) → (c : Ordering) → R k e.0 ≡ c
         → lookup (is_at (R q)) (match_ordering c ((k, v) ∷ e ∷ es) ((e.0, v) ∷ es) (e ∷ insert_entry R es k v)) ≡ cond (eq_by_cmp R q k) (Some v) (cond (eq_by_cmp R q e.0) (Some e.1) (lookup (is_at (R q)) es))
     go rec Less is = refl

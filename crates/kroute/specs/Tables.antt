@@ -1,16 +1,15 @@
 -- All configured tables, with the failures that are arranged.
-use Rattle.std.specs.Prelude.{◌≡◌, ◌⊎◌, ℕ, cond, List, [], ◌∷◌, Option, Some, None, unwrap_or}
+use Rattle.std.specs.Prelude.{◌≡◌, ℕ, cond, List, [], Option, Some, None, unwrap_or}
 use Rattle.std.specs.BTreeMap.{is_at}
 use Rattle.std.specs.Map.{lookup}
-use Rattle.std.specs.Option.{option_map}
+use Rattle.std.specs.Option.{option_map, option_map_or}
 use Rattle.std.specs.Ordering.{nat_cmp}
-use Rattle.net_base.specs.declared.prefix.Prefix.{Prefix}
-use Rattle.net_base.specs.declared.addr.Addr.{Addr}
-use Rattle.kroute.specs.declared.phase.Phase.{Phase}
+use Rattle.std.specs.declared.cmp.Ordering.TheVariants.{Less}
 use Rattle.kroute.specs.declared.phase.Work.{Work}
 use Rattle.kroute.specs.declared.table.Change.{Change}
 use Rattle.kroute.specs.declared.table.Change.TheVariants.{Want, WantNone, Couple, Decouple, Lose}
 use Rattle.kroute.specs.Calls.{IsNext}
+use Rattle.kroute.specs.Rows.{Rows}
 use Rattle.kroute.specs.Table.{TableState, wants, wants_no, couples, decouples, loses}
 
 -- the configured tables by number, and of a table number how many calls on it are left until one fails
@@ -46,12 +45,24 @@ SetsTable t n old new = (m : ℕ) → table_at new m ≡ cond (is_at (nat_cmp n)
 abbrev pub SetsArranged : ℕ → ℕ → TablesState → TablesState → Type 0
 SetsArranged left n old new = (m : ℕ) → arranged_at new m ≡ cond (is_at (nat_cmp n) m) left (arranged_at old m)
 
--- The first table in order of number that has a job, with its next call.
-abbrev pub IsFirst : List (ℕ × TableState) → Option (ℕ × Work) → Type 0
-IsFirst [] found = found ≡ None
-IsFirst (e ∷ es) found = (IsNext e.1.phase None × IsFirst es found) ⊎ ((work : Work) × IsNext e.1.phase (Some work) × (found ≡ Some (e.0, work)))
+-- the table is there, and this is its next call
+abbrev pub HasNext : Work → Option TableState → Type 0
+HasNext work found = (t : TableState) × (found ≡ Some t) × IsNext t.phase (Some work)
+
+-- Each configured table with a number below this one has no job.
+abbrev pub NoneBelow : TablesState → ℕ → Type 0
+NoneBelow s n = (m : ℕ) (t : TableState) → nat_cmp m n ≡ Less → table_at s m ≡ Some t → IsNext t.phase None
+
+-- The lowest table with a job, and its next call; none where no table has a job.
+abbrev pub IsLowest : TablesState → Option (ℕ × Work) → Type 0
+IsLowest s None = (m : ℕ) (t : TableState) → table_at s m ≡ Some t → IsNext t.phase None
+IsLowest s (Some (n, work)) = HasNext work (table_at s n) × NoneBelow s n
 
 -- the number alone
 abbrev pub LowestJob : TablesState → Option ℕ → Type 0
-LowestJob s None = IsFirst s.tables None
-LowestJob s (Some n) = (work : Work) × IsFirst s.tables (Some (n, work))
+LowestJob s None = IsLowest s None
+LowestJob s (Some n) = (work : Work) × IsLowest s (Some (n, work))
+
+-- the rows that are wanted of the table of that number; none where it isn't configured
+abbrev pub wanted_of : TablesState → ℕ → Rows
+wanted_of s n = option_map_or (λ t. t.wanted) (table_at s n) []

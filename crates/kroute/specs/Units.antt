@@ -3,11 +3,7 @@ use Rattle.std.specs.Prelude.{◌≡◌, ◌≢◌, ◌-◌, ◌⊎◌, ℕ, Boo
 use Rattle.kroute.specs.declared.phase.Work.{Work}
 use Rattle.kroute.specs.Calls.{IsNext, Outcome, Outside}
 use Rattle.kroute.specs.Table.{TableState, loses}
-use Rattle.kroute.specs.Tables.{TablesState, ChangesTable, IsFirst, SetsArranged, SetsTable, arranged_at, table_at}
-
--- the table is there, and this is its next call
-abbrev pub HasNext : Work → Option TableState → Type 0
-HasNext work found = (t : TableState) × (found ≡ Some t) × IsNext t.phase (Some work)
+use Rattle.kroute.specs.Tables.{TablesState, ChangesTable, IsLowest, SetsArranged, SetsTable, arranged_at, table_at}
 
 -- A call was made on a table, and nothing else changed.
 pub record CallsOn (lost : Bool) (number : ℕ) (work : Work) (old new : TablesState) (before after : Outside) : Type 0 where
@@ -20,7 +16,7 @@ pub record CallsOn (lost : Bool) (number : ℕ) (work : Work) (old new : TablesS
 
 -- There was no job, and nothing is done.
 pub record Idles (lost : Option ℕ) (old new : TablesState) (before after : Outside) : Type 0 where
-  pub none : IsFirst old.tables None
+  pub none : IsLowest old None
   pub answer : lost ≡ None
   pub same : new ≡ old
   pub untouched : after ≡ before
@@ -29,7 +25,7 @@ pub record Idles (lost : Option ℕ) (old new : TablesState) (before after : Out
 pub record FallsDue (lost : Option ℕ) (old new : TablesState) (before after : Outside) : Type 0 where
   pub number : ℕ
   pub work : Work
-  pub first : IsFirst old.tables (Some (number, work))
+  pub first : IsLowest old (Some (number, work))
   pub due : arranged_at old number ≡ 1
   pub answer : lost ≡ Some number
   pub tables : ChangesTable loses number old new
@@ -40,7 +36,7 @@ pub record FallsDue (lost : Option ℕ) (old new : TablesState) (before after : 
 pub record Calls (lost : Option ℕ) (old new : TablesState) (before after : Outside) : Type 0 where
   pub number : ℕ
   pub work : Work
-  pub first : IsFirst old.tables (Some (number, work))
+  pub first : IsLowest old (Some (number, work))
   pub due : arranged_at old number ≢ 1
   pub failed : Bool
   pub answer : lost ≡ (if failed then Some number else None)

@@ -137,7 +137,11 @@ fn rows_of(
     }
 }
 
-fn entries_of(alloc: Global, rows: &BTreeMap<Prefix, Addr>) -> Result<HopList, AllocError>
+/// The rows of a map in order.
+pub(crate) fn entries_of(
+    alloc: Global,
+    rows: &BTreeMap<Prefix, Addr>,
+) -> Result<HopList, AllocError>
     ensures rows { IfOk result (λ list. list ≡ rows.now.entries) }
     ensures by_prefix { IfOk result (λ list. IsByPrefix list) }
 {

@@ -7,8 +7,8 @@ ghost use Rattle.kroute.specs.Phases.{differ, row_at};
 ghost use Rattle.kroute.specs.Rows.{IsByPrefix, IsInOrder, IsSetOf};
 ghost use Rattle.kroute.specs.Table.{IsListed};
 
-use crate::phase::Phase;
 use crate::HopList;
+use crate::phase::Phase;
 use net_base::{Addr, NoMemory, Prefix, PrefixSet};
 use std::alloc::Global;
 use std::collections::BTreeMap;

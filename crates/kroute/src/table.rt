@@ -1,4 +1,4 @@
-ghost use Rattle.std.specs.Prelude.{◌≡◌, ◌≢◌, ℕ, Some, IfOk, OnOk, OnErr, if◌then◌else◌};
+ghost use Rattle.std.specs.Prelude.{◌≡◌, ◌≢◌, ℕ, length, Some, IfOk, OnOk, OnErr, if◌then◌else◌};
 ghost use Rattle.net_base.specs.Order.{prefix_cmp};
 ghost use Rattle.kroute.specs.Calls.{CountsLoss, IsAsked, IsNext, Outcome, StandsAfter};
 ghost use Rattle.kroute.specs.Phases.{after_del, after_set, coupling_of, row_at};
@@ -7,9 +7,10 @@ ghost use Rattle.kroute.specs.Table.{new_table, wants, wants_no};
 ghost use Rattle.kroute.specs.Tables.{changed};
 ghost use Rattle.kroute.specs.declared.phase.Phase.TheVariants.{Lost};
 
+use crate::kernel::entries_of;
 use crate::listing::{hop_of, listed};
 use crate::phase::{Coupling, Phase, Work};
-use crate::Kernel;
+use crate::{HopList, Kernel};
 use io_edge::FileFault;
 use net_base::{Addr, NoMemory, Prefix};
 use std::alloc::{AllocError, Global};
@@ -146,6 +147,20 @@ impl Table {
         ensures { result ≡ row_at self.now.wanted prefix }
     {
         hop_of(&self.wanted, prefix)
+    }
+
+    /// The rows that are wanted, by prefix.
+    pub(crate) fn rows(&self, alloc: Global) -> Result<HopList, NoMemory>
+        ensures { IfOk result (λ rows. rows ≡ self.now.wanted) }
+    {
+        entries_of(alloc, &self.wanted)
+    }
+
+    /// How many rows are wanted.
+    pub(crate) fn len(&self) -> usize
+        ensures { result ≡ length self.now.wanted }
+    {
+        self.wanted.len()
     }
 
     /// Lists the rows of the table, and answers whether it was lost.

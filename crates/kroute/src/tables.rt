@@ -1,17 +1,15 @@
-ghost use Rattle.std.specs.Prelude.{◌≡◌, ◌≢◌, ◌-◌, ◌==◌, ℕ, [], Bool, true, Option, Some, None, IfOk, IfSome, OnOk, OnErr, if◌then◌else◌};
-ghost use Rattle.std.specs.BTreeMap.{insert_entry, is_at};
-ghost use Rattle.std.specs.Map.{remove_entry};
+ghost use Rattle.std.specs.Prelude.{◌≡◌, ◌-◌, [], length, Some, None, IfOk, OnOk, OnErr};
+ghost use Rattle.std.specs.Map.{keys_of};
 ghost use Rattle.std.specs.Option.{option_map};
-ghost use Rattle.std.specs.Ordering.{nat_cmp};
-ghost use Rattle.kroute.specs.Phases.{coupling_of, row_at};
-ghost use Rattle.kroute.specs.Table.{TableState, couples, decouples, new_table, wants, wants_no};
-ghost use Rattle.kroute.specs.Tables.{ChangesTable, IsFirst, LowestJob, SetsArranged, SetsTable, arranged_at, changed, table_at};
-ghost use Rattle.kroute.specs.Units.{CallsOn, HasNext, IsUnit};
+ghost use Rattle.kroute.specs.Phases.{coupling_of};
+ghost use Rattle.kroute.specs.Table.{couples, decouples, new_table, wants, wants_no};
+ghost use Rattle.kroute.specs.Tables.{ChangesTable, HasNext, IsLowest, LowestJob, SetsArranged, SetsTable, arranged_at, changed, table_at, wanted_of};
+ghost use Rattle.kroute.specs.Units.{CallsOn, IsUnit};
 
 use crate::phase::{Coupling, Work};
 use crate::table::{Change, Table};
-use crate::Kernel;
-use net_base::{Addr, NoMemory, Prefix};
+use crate::{HopList, Kernel};
+use net_base::{Addr, Items, NoMemory, Prefix};
 use std::alloc::Global;
 use std::collections::BTreeMap;
 use std::marker::Model;
@@ -154,8 +152,7 @@ impl Tables {
 
     /// The lowest table with a job, and the next call on it.
     fn next(&self) -> Option<(u32, Work)>
-        ensures first { IsFirst self.now.tables result }
-        ensures there { IfSome result (λ next. HasNext next.1 (table_at self.now next.0)) }
+        ensures { IsLowest self.now result }
     {
         for (number, table) in self.tables.iter() {
             if let Some(work) = table.next() {
@@ -191,12 +188,7 @@ impl Tables {
 
 impl Tables {
     /// Makes the next call on a table, and answers whether it was lost by it.
-    fn call<K: Kernel>(
-        &mut self,
-        number: u32,
-        work: Work,
-        kernel: &mut K,
-    ) -> Result<bool, NoMemory>
+    fn call<K: Kernel>(&mut self, number: u32, work: Work, kernel: &mut K) -> Result<bool, NoMemory>
         requires { HasNext work (table_at self.old number) }
         ensures made { IfOk result (λ lost. CallsOn lost number work self.old self.new
             (record { held = K.held kernel.old; faults = K.faults kernel.old; listed = K.listed kernel.old })
@@ -229,6 +221,39 @@ impl Tables {
     {
         if let Some(left) = self.arranged.get_mut(&number) {
             *left = left.saturating_sub(1);
+        }
+    }
+}
+
+impl Tables {
+    /// The configured tables, by number.
+    pub fn numbers(&self, alloc: Global) -> Result<Items<u32>, NoMemory>
+        ensures { IfOk result (λ numbers. numbers ≡ keys_of self.now.tables) }
+    {
+        let mut numbers = Items::new(alloc);
+        for (number, _) in self.tables.iter() {
+            numbers.push(*number)?;
+        }
+        Ok(numbers)
+    }
+
+    /// The rows that are wanted of a table, by prefix; none where it isn't configured.
+    pub fn wanted(&self, alloc: Global, table: u32) -> Result<HopList, NoMemory>
+        ensures { IfOk result (λ rows. rows ≡ wanted_of self.now table) }
+    {
+        match self.tables.get(&table) {
+            Some(found) => found.rows(alloc),
+            None => Ok(Items::new(alloc)),
+        }
+    }
+
+    /// How many rows are wanted of a table.
+    pub fn len(&self, table: u32) -> usize
+        ensures { result ≡ length (wanted_of self.now table) }
+    {
+        match self.tables.get(&table) {
+            Some(found) => found.len(),
+            None => 0,
         }
     }
 }

@@ -1,6 +1,6 @@
 use Rattle.std.proofs.Common.{ℕ, Option}
 use Rattle.kroute.specs.declared.phase.Work.{Work}
-use Rattle.kroute.specs.Tables.{IsFirst}
+use Rattle.kroute.proofs.Lists.{IsFirst}
 use Rattle.kroute.proofs.tables.Tables.next.Given as goal
 
 -- what is the first of the tables that are left is the first of all
