@@ -46,6 +46,7 @@ fn kernel_rows_go_by_prefix(rt: HostRuntime) -> Result<(), Fail> {
 }
 
 /// A step of a run on the tables 1 and 2.
+#[derive(Drop)]
 enum Step {
     Add(u32),
     Remove(u32),
