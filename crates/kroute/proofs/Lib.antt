@@ -1,0 +1,4 @@
+mod Order
+mod Steps
+mod Lists
+mod Agreement

@@ -1,10 +1,31 @@
 -- The rows of kernel tables: each a prefix and its next hop, in order of prefix.
-use Rattle.std.specs.Prelude.{◌≡◌, ◌≢◌, ◌⊎◌, ℕ, ◌+◌, ◌≤◌, min, List, length, Option, Result, Ok, Err, OnOk, OnErr}
+use Rattle.std.specs.Prelude.{◌≡◌, ◌≢◌, ◌⊎◌, ℕ, ◌+◌, ◌≤◌, min, Bool, List, length, Option, Result, Ok, Err, OnOk, OnErr}
 use Rattle.std.specs.declared.cmp.Ordering.{Ordering}
 use Rattle.std.specs.Option.{option_map}
 use Rattle.std.specs.BTreeMap.{insert_entry, is_at}
-use Rattle.std.specs.Map.{remove_entry}
+use Rattle.std.specs.List.Sorted.{IsStrictlySortedBy}
+use Rattle.std.specs.Map.{keys_of, remove_entry}
+use Rattle.net_base.specs.declared.addr.Addr.{Addr}
+use Rattle.net_base.specs.declared.prefix.Prefix.{Prefix}
+use Rattle.net_base.specs.Order.{prefix_cmp}
+use Rattle.net_base.specs.PrefixSet.{is_in}
 use Rattle.io_edge.specs.Faults.{last_count, Rose}
+
+abbrev pub Rows : Type 0
+Rows = List (Prefix × Addr)
+
+-- the rows are in order of prefix, each prefix once
+abbrev pub IsByPrefix : Rows → Type 0
+IsByPrefix rows = IsStrictlySortedBy prefix_cmp (keys_of rows)
+
+-- the prefixes are in order, each once
+abbrev pub IsInOrder : List Prefix → Type 0
+IsInOrder prefixes = IsStrictlySortedBy prefix_cmp prefixes
+
+-- The set has exactly the prefixes that pass, in order.
+pub record IsSetOf (prefixes : List Prefix) (test : Prefix → Bool) : Type 0 where
+  pub in_order : IsInOrder prefixes
+  pub has : (q : Prefix) → is_in prefixes q ≡ test q
 
 -- the rows with this one put among them, or in the place of the row of its prefix
 abbrev pub with_row : {P A : Type 0} → (P → P → Ordering) → Option (List (P × A)) → P → A → Option (List (P × A))

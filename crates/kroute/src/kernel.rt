@@ -4,8 +4,9 @@ ghost use Rattle.std.specs.BTreeMap.{insert_entry, is_at};
 ghost use Rattle.std.specs.Map.{remove_entry};
 ghost use Rattle.net_base.specs.declared.prefix.Prefix.{Prefix};
 ghost use Rattle.net_base.specs.declared.addr.Addr.{Addr};
+ghost use Rattle.net_base.specs.Order.{prefix_cmp};
 ghost use Rattle.io_edge.specs.FileFault.{CountsFault};
-ghost use Rattle.kroute.specs.Rows.{with_row, without_row, ChangesRows, CountsTable, CountsListed};
+ghost use Rattle.kroute.specs.Rows.{with_row, without_row, ChangesRows, CountsTable, CountsListed, IsByPrefix};
 ghost use Rattle.kroute.specs.TableMemory.{rows_in};
 
 use io_edge::{Failed, FileFault};
@@ -33,7 +34,7 @@ pub trait Kernel {
     /// row is as before or as asked.
     fn set(&mut self, table: u32, prefix: Prefix, hop: Addr) -> Result<(), Failed>
         ensures rows { ChangesRows (held self.old) (held self.new) table
-            (with_row ⟦<Prefix as Ord>⟧.cmp (held self.old table) prefix hop) result }
+            (with_row prefix_cmp (held self.old table) prefix hop) result }
         ensures listed { listed self.new ≡ listed self.old }
         ensures count { CountsTable (faults self.old) (faults self.new) table result };
 
@@ -41,13 +42,14 @@ pub trait Kernel {
     /// the row is as before or gone.
     fn del(&mut self, table: u32, prefix: Prefix) -> Result<(), Failed>
         ensures rows { ChangesRows (held self.old) (held self.new) table
-            (without_row ⟦<Prefix as Ord>⟧.cmp (held self.old table) prefix) result }
+            (without_row prefix_cmp (held self.old table) prefix) result }
         ensures listed { listed self.new ≡ listed self.old }
         ensures count { CountsTable (faults self.old) (faults self.new) table result };
 
-    /// All rows of the table. Failed comes only where the table's count of faults rose.
+    /// All rows of the table, by prefix, each prefix once. Failed comes only where the table's count of faults rose.
     fn list(&mut self, alloc: Global, table: u32) -> Result<HopList, FileFault>
         ensures answer { IfOk result (λ rows. IfSome (held self.old table) (λ told. rows ≡ told)) }
+        ensures by_prefix { IfOk result (λ rows. IsByPrefix rows) }
         ensures rows { held self.new ≡ held self.old }
         ensures listed { CountsListed (listed self.old) (listed self.new) result }
         ensures count { CountsFault (faults self.old table) (faults self.new table) result }
@@ -96,7 +98,7 @@ fn put(
     prefix: Prefix,
     hop: Addr,
 ) -> Result<(), AllocError>
-    ensures ok { OnOk result (rows_in tables.new table ≡ insert_entry ⟦<Prefix as Ord>⟧.cmp (rows_in tables.old table) prefix hop) }
+    ensures ok { OnOk result (rows_in tables.new table ≡ insert_entry prefix_cmp (rows_in tables.old table) prefix hop) }
     ensures err { OnErr result ((other : ℕ) → rows_in tables.new other ≡ rows_in tables.old other) }
     ensures others { (other : ℕ) → other ≢ table → rows_in tables.new other ≡ rows_in tables.old other }
 {
@@ -126,7 +128,8 @@ fn rows_of(
     tables: &BTreeMap<u32, BTreeMap<Prefix, Addr>>,
     table: u32,
 ) -> Result<HopList, AllocError>
-    ensures { IfOk result (λ rows. rows ≡ rows_in tables.now table) }
+    ensures rows { IfOk result (λ rows. rows ≡ rows_in tables.now table) }
+    ensures by_prefix { IfOk result (λ rows. IsByPrefix rows) }
 {
     match tables.get(&table) {
         Some(rows) => entries_of(alloc, rows),
@@ -134,8 +137,13 @@ fn rows_of(
     }
 }
 
-fn entries_of(alloc: Global, rows: &BTreeMap<Prefix, Addr>) -> Result<HopList, AllocError>
-    ensures { IfOk result (λ list. list ≡ rows.now.entries) }
+/// The rows of a map in order.
+pub(crate) fn entries_of(
+    alloc: Global,
+    rows: &BTreeMap<Prefix, Addr>,
+) -> Result<HopList, AllocError>
+    ensures rows { IfOk result (λ list. list ≡ rows.now.entries) }
+    ensures by_prefix { IfOk result (λ list. IsByPrefix list) }
 {
     let mut list = Items::new(alloc);
     for (prefix, hop) in rows.iter() {
