@@ -1,4 +1,4 @@
-ghost use Rattle.std.specs.Prelude.{◌≡◌, List, [], None, Some, true};
+ghost use Rattle.std.specs.Prelude.{◌≡◌, List, [], None, Some, filter, true};
 ghost use Rattle.net_base.specs.declared.addr.Addr.{Addr};
 ghost use Rattle.net_base.specs.Order.{same_family};
 ghost use Rattle.attr_model.specs.declared.attrs.Attrs.{Attrs};
@@ -6,6 +6,7 @@ ghost use Rattle.conf_tree.specs.declared.conf.Conf.{Conf};
 ghost use Rattle.conf_tree.specs.declared.rule.Rule.{Rule};
 ghost use Rattle.filter_engine.specs.declared.context.Context.{Context};
 ghost use Rattle.filter_engine.specs.declared.verdict.Hop.TheVariants.{Given};
+ghost use Rattle.filter_engine.specs.IsFor.{is_for};
 ghost use Rattle.filter_engine.specs.Verdict.{verdict};
 
 /// A verdict goes by the sets of a configuration and by nothing else in it, and without rules no route passes.
@@ -20,4 +21,11 @@ pub fn verdict_goes_by_sets()
 pub fn given_hop_has_the_family()
     ensures { (conf : Conf) (rules : List Rule) (context : Context) (attrs told : Attrs) (address : Addr) →
         verdict conf rules context attrs ≡ Some (told, Given address) → same_family address.family context.prefix.family ≡ true }
+{}
+
+/// Rules for another direction, RIB or neighbour change nothing: the verdict of those that are for the route is that of
+/// all.
+pub fn verdict_goes_by_rules_for_the_route()
+    ensures { (conf : Conf) (rules : List Rule) (context : Context) (attrs : Attrs) →
+        verdict conf (filter (is_for context) rules) context attrs ≡ verdict conf rules context attrs }
 {}
