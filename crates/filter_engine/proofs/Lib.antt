@@ -10,3 +10,4 @@ mod HopFamily
 pub mod Linking
 pub mod Skipping
 pub mod Meets
+mod SettledNames

@@ -18,7 +18,8 @@ pub use context::Context;
 pub use evaluation::{evaluate, evaluate_skipping};
 pub use items::{apply_set, choose_hop};
 pub use laws::{
-    given_hop_has_the_family, verdict_goes_by_rules_for_the_route, verdict_goes_by_sets,
+    given_hop_has_the_family, settled_rules_name_sets, valid_attributes_stay_valid,
+    verdict_goes_by_rules_for_the_route, verdict_goes_by_sets,
 };
 pub use skips::SkipTable;
 pub use steps::Steps;
