@@ -67,7 +67,7 @@ code_low origin.Igp = omega arith
 code_low origin.Egp = omega arith
 code_low origin.Incomplete = omega arith
 
-prepends_valid : (asn times : ℕ) (attrs : Attrs) → IsValid attrs → IsValid (with_prepends asn times attrs)
+pub prepends_valid : (asn times : ℕ) (attrs : Attrs) → IsValid attrs → IsValid (with_prepends asn times attrs)
 prepends_valid asn times attrs valid = others attrs attrs.origin (prepended asn times attrs.path) attrs.med attrs.local_pref attrs.weight valid.origin (prepended_valid asn times attrs.path valid.path) valid
 
 origin_valid : (code : RouteOrigin) (attrs : Attrs) → IsValid attrs → IsValid (with_origin code attrs)

@@ -7,3 +7,7 @@ pub mod PartialBits
 pub mod ItemsValid
 pub mod VerdictValid
 mod HopFamily
+pub mod Linking
+pub mod Skipping
+pub mod Meets
+mod SettledNames

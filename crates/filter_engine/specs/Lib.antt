@@ -7,3 +7,4 @@ pub mod Progress
 pub mod EmptySets
 pub mod IsFor
 pub mod Asked
+pub mod Skips

@@ -1,16 +1,20 @@
-ghost use Rattle.std.specs.Prelude.{◌≡◌, ◌+◌, ◌↔◌, IsTrue, IfOk, OnOk, unwrap_or, None, true, false};
+ghost use Rattle.std.specs.Prelude.{◌≡◌, ◌+◌, ◌↔◌, IsTrue, IfOk, OnOk, List, ◌∷◌, unwrap_or, None, true, false, if◌then◌else◌};
+ghost use Rattle.conf_tree.specs.declared.rule.Rule.{Rule};
 ghost use Rattle.std.specs.List.{All};
+ghost use Rattle.attr_model.specs.declared.attrs.Attrs.{Attrs};
 ghost use Rattle.attr_model.specs.Path.{origin_as};
 ghost use Rattle.attr_model.specs.Valid.{IsValid};
 ghost use Rattle.filter_engine.specs.Asked.{AreRight};
 ghost use Rattle.filter_engine.specs.Conditions.{rule_matches};
 ghost use Rattle.filter_engine.specs.Named.{AreNamed, IsNamed};
+ghost use Rattle.filter_engine.specs.Skips.{IsBuilt};
 ghost use Rattle.filter_engine.specs.Verdict.{IsValidVerdict, Says, begun, decided, evaluated, outcome, taken, verdict};
 ghost use Rattle.filter_engine.specs.Progress.{course_of};
 
 use crate::asked::Asked;
 use crate::items::{apply_set, choose_hop};
 use crate::rule_test::{all_hold, is_for};
+use crate::skips::{SkipTable, least};
 use crate::{Context, Hop, Steps, Verdict};
 use attr_model::Attrs;
 use conf_tree::{Action, Members, Rule, RuleList};
@@ -33,6 +37,7 @@ impl Progress {
         ensures unchanged { result.changed ≡ None }
         ensures unset { result.hop ≡ Hop.Unset }
         ensures denied { result.passes ≡ false }
+        ensures begun { (route : Attrs) → course_of route result ≡ begun route }
     {
         Progress {
             changed: None,
@@ -83,14 +88,109 @@ fn walk<M: Members>(
     let mut progress = Progress::begun();
     let mut asked = Asked::nothing();
     for rule in rules {
-        if matches(sets, context, origin, route, &progress, rule, &mut asked) {
-            take(alloc, rule, context, route, &mut progress)?;
-            if rule.quick {
-                return Ok(progress);
-            }
+        if follow(
+            alloc,
+            sets,
+            context,
+            origin,
+            route,
+            rule,
+            &mut progress,
+            &mut asked,
+        )? {
+            return Ok(progress);
         }
     }
     Ok(progress)
+}
+
+/// What the rules decide of a route, as `evaluate` says, where the table was built from them. Rules for another
+/// direction, RIB or neighbour cost nothing.
+#[tactic(auto, unfolding(crate::specs::Verdict::verdict))]
+pub fn evaluate_skipping<M: Members, L: Ledger>(
+    alloc: Global,
+    table: &SkipTable,
+    rules: &RuleList,
+    sets: &M,
+    context: &Context,
+    route: &Attrs,
+    steps: &mut Steps<L>,
+) -> Result<Verdict, NoMemory>
+    requires named { AreNamed (M.conf_of sets.now) rules.now }
+    requires built { IsBuilt table.now rules.now }
+    ensures verdict { IfOk result (Says route.now (verdict (M.conf_of sets.now) rules.now context.now route.now)) }
+    ensures counted { steps.new ≡ steps.old + 1 }
+    ensures valid { IsValid route.now → IfOk result IsValidVerdict }
+{
+    steps.tick();
+    let origin = route.path.origin_as(context.own_as);
+    let rules = rules.as_slice();
+    let progress = walk_skipping(alloc, table, rules, sets, context, origin, route)?;
+    Ok(verdict_of(route, progress))
+}
+
+/// The rules that can be for the route, in order, up to the first quick one that matches.
+#[tactic(auto, unfolding(crate::specs::Verdict::evaluated))]
+fn walk_skipping<M: Members>(
+    alloc: Global,
+    table: &SkipTable,
+    rules: &[Rule],
+    sets: &M,
+    context: &Context,
+    origin: Option<u32>,
+    route: &Attrs,
+) -> Result<Progress, NoMemory>
+    requires named { AreNamed (M.conf_of sets.now) rules.now }
+    requires built { IsBuilt table.now rules.now }
+    ensures { IfOk result (λ progress. course_of route.now progress ≡ evaluated (M.conf_of sets.now) context.now origin rules.now (begun route.now)) }
+{
+    let mut progress = Progress::begun();
+    let mut asked = Asked::nothing();
+    let buckets = table.asked(context);
+    let mut places = table.first(&buckets);
+    let mut at = least(&places, rules.len());
+    while at < rules.len() {
+        if follow(
+            alloc,
+            sets,
+            context,
+            origin,
+            route,
+            &rules[at],
+            &mut progress,
+            &mut asked,
+        )? {
+            return Ok(progress);
+        }
+        table.go_on(&buckets, &mut places, at);
+        at = least(&places, rules.len());
+    }
+    Ok(progress)
+}
+
+/// One rule of an evaluation: what it does where it matches. Whether it is the last, since it matches and is quick.
+#[tactic(auto, unfolding(crate::specs::Verdict::evaluated))]
+fn follow<M: Members>(
+    alloc: Global,
+    sets: &M,
+    context: &Context,
+    origin: Option<u32>,
+    route: &Attrs,
+    rule: &Rule,
+    progress: &mut Progress,
+    asked: &mut Asked,
+) -> Result<bool, NoMemory>
+    requires named { All (IsNamed (M.conf_of sets.now)) rule.now.conditions }
+    requires right { AreRight (M.conf_of sets.now) context.now origin asked.old }
+    ensures step { IfOk result (λ last. (rest : List Rule) → evaluated (M.conf_of sets.now) context.now origin (rule.now ∷ rest) (course_of route.now progress.old)
+        ≡ (if last then course_of route.now progress.new else evaluated (M.conf_of sets.now) context.now origin rest (course_of route.now progress.new))) }
+    ensures kept { AreRight (M.conf_of sets.now) context.now origin asked.new }
+{
+    if !matches(sets, context, origin, route, progress, rule, asked) {
+        return Ok(false);
+    }
+    take(alloc, rule, context, route, progress)?;
+    Ok(rule.quick)
 }
 
 /// Whether a rule matches the route as it stands.

@@ -460,3 +460,88 @@ fn the_last_rule_decides(rt: HostRuntime) -> Result<(), Fail> {
     assert_eq!(rt; decide(alloc, &[allow])?, Some(None));
     Ok(())
 }
+
+/// Whom a rule is for.
+type Audience = (Direction, Option<u8>, Peer);
+
+/// A `match` for each of these that raises LOCAL_PREF by 1, and then an `allow` for all.
+fn raises(alloc: Global, audiences: &[Audience]) -> Result<RuleList, Fail> {
+    let mut rules = RuleList::new(alloc);
+    for audience in audiences {
+        let raise = rule(alloc, (Action::Match, false, Some(Change::Add(1))))?;
+        rules.push(Rule {
+            direction: audience.0,
+            rib: audience.1,
+            peer: audience.2.clone()?,
+            ..raise
+        })?;
+    }
+    rules.push(rule(alloc, (Action::Allow, false, None))?)?;
+    Ok(rules)
+}
+
+/// The verdicts of both evaluations.
+fn decide_both<L: Ledger>(
+    alloc: Global,
+    rules: &RuleList,
+    context: &Context,
+    route: &Attrs,
+    blank: Blank,
+) -> Result<(Verdict, Verdict), Fail>
+    requires named { AreNamed empty_sets rules.now }
+    requires name { blank.name ≡ L.name }
+    requires parts { blank.parts ≡ L.parts }
+    requires some { 0 < blank.parts }
+{
+    let mut steps = Steps::<L>::new(blank);
+    let table = SkipTable::build(alloc, rules)?;
+    let one = evaluate(alloc, rules, &NoSets, context, route, &mut steps)?;
+    let other = evaluate_skipping(alloc, &table, rules, &NoSets, context, route, &mut steps)?;
+    Ok((one, other))
+}
+
+/// The LOCAL_PREF that both evaluations agree on.
+fn raised(alloc: Global, rules: &RuleList, context: &Context) -> Result<Option<u32>, Fail> {
+    if !rules_name_no_sets(rules.as_slice()) {
+        return Ok(None);
+    }
+    let route = route(alloc)?;
+    match decide_both::<Brand>(alloc, rules, context, &route, Blank::new(1))? {
+        (Verdict::Changed(one, _), Verdict::Changed(other, _)) if one == other => Ok(
+            one.local_pref,
+        ),
+        _ => Ok(None),
+    }
+}
+
+// Five of these thirteen are for a route into RIB 0 from 10.0.0.2 of AS 65002 in the group transit.
+#[test]
+fn rules_for_others_are_passed_over(rt: HostRuntime) -> Result<(), Fail> {
+    let alloc = rt.alloc();
+    let name = Items::from_slice(alloc, b"transit")?;
+    let context = Context {
+        group: Some(name.clone()?),
+        ..context()
+    };
+    let other = Items::from_slice(alloc, b"customers")?;
+    let audiences = [
+        (Direction::From, None, Peer::Any),
+        (Direction::From, Some(0), Peer::Ebgp),
+        (Direction::From, Some(1), Peer::Any),
+        (Direction::To, None, Peer::Any),
+        (Direction::To, None, Peer::Address(v4(2))),
+        (Direction::From, None, Peer::Ibgp),
+        (Direction::From, None, Peer::Address(v4(2))),
+        (Direction::From, None, Peer::Address(v4(3))),
+        (Direction::From, None, Peer::Address(v6())),
+        (Direction::From, Some(0), Peer::Group(name)),
+        (Direction::From, None, Peer::Group(other)),
+        (Direction::From, None, Peer::As(65002)),
+        (Direction::From, None, Peer::As(65003)),
+    ];
+    let rules = raises(alloc, &audiences)?;
+    assert_eq!(rt; raised(alloc, &rules, &context)?, Some(105));
+    let none = raises(alloc, &audiences[2..6])?;
+    assert_eq!(rt; raised(alloc, &none, &context)?, None);
+    Ok(())
+}
