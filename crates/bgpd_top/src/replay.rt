@@ -3,57 +3,14 @@ ghost use Rattle.std.specs.Prelude.{◌≢◌, ◌≡◌, ◌+◌, ◌<◌, ◌�
 ghost use Rattle.io_edge.specs.Reading.{lines_ahead, fault_ahead, Ends};
 ghost use Rattle.io_edge.specs.FileLines.{file_limit};
 ghost use Rattle.bgpd_top.specs.Faults.{of_line, CountsWorld, IsNoBadEvent};
-ghost use Rattle.event_text.specs.Grammar.{is_skipped, no_more, with_event, FileEvents, Ended, BadEvent, TooLong};
+ghost use Rattle.event_text.specs.Grammar.{is_skipped, is_reload, no_more, with_event, FileEvents, Ended, BadEvent, TooLong};
 
+use crate::world::WorldFault;
 use core_msgs::Event;
-use event_text::{EventFault, LinesHeld, is_skipped, read_event};
-use io_edge::{LineFault, Lines, Source, read_line};
+use event_text::{EventFault, LinesHeld, is_reload, is_skipped, read_event};
+use io_edge::{Lines, Source, read_line};
 use net_base::{Bytes, NoMemory};
 use std::alloc::Global;
-use thiserror::Error;
-
-/// Why a world gives no event.
-#[derive(Clone, Copy, Debug, PartialEq, Eq, Error)]
-pub enum WorldFault {
-    /// The line of this number, counted from 1, isn't of the grammar of events.
-    #[error("line {0}: bad event")]
-    BadEvent(u32),
-    /// The source failed.
-    #[error("read fault")]
-    ReadFault,
-    /// A line or the file is past its limit.
-    #[error("too long")]
-    TooLong,
-    /// Memory was refused.
-    #[error("no memory")]
-    NoMemory,
-}
-
-impl From<LineFault> for WorldFault {
-    ghost use Rattle.std.specs.Prelude.{◌≡◌};
-    ghost use Rattle.bgpd_top.specs.Faults.{of_line};
-
-    ghost from_gives = { λ cause fault. fault ≡ of_line cause };
-
-    fn from(cause: LineFault) -> Self {
-        match cause {
-            LineFault::ReadFault => WorldFault::ReadFault,
-            LineFault::LineTooLong | LineFault::FileTooLong => WorldFault::TooLong,
-            LineFault::NoMemory => WorldFault::NoMemory,
-        }
-    }
-}
-
-impl From<NoMemory> for WorldFault {
-    ghost use Rattle.std.specs.Prelude.{◌≡◌};
-    ghost use Rattle.bgpd_top.specs.declared.replay.WorldFault.TheVariants.{NoMemory};
-
-    ghost from_gives = { λ _ fault. fault ≡ NoMemory };
-
-    fn from(_: NoMemory) -> Self {
-        WorldFault::NoMemory
-    }
-}
 
 /// A reader of the events of an event file.
 #[derive(Debug, Drop)]
@@ -65,7 +22,7 @@ pub struct EventReader {
 }
 
 impl EventReader {
-    ghost use Rattle.bgpd_top.specs.Reader.{IsFresh, reader_lines, reader_fault, reader_passed, to_come, reader_count, is_spent_reader, EndsTooLong, before_head, come_after};
+    ghost use Rattle.bgpd_top.specs.Reader.{IsFresh, reader_lines, reader_fault, reader_passed, to_come, reader_count, is_spent_reader, EndsTooLong, before_head, come_after, front_of, asks_source};
     ghost use Rattle.event_text.specs.Held.{wants_more};
     ghost use Rattle.bgpd_top.specs.Ahead.{held_then_come, events_to_come};
 
@@ -77,6 +34,17 @@ impl EventReader {
             lines: Lines::new(alloc)?,
             count: 0,
         })
+    }
+
+    /// Whether the next event may need a read of the source. It doesn't where its line is wholly there, and isn't passed
+    /// over or the first of several.
+    pub fn asks(&self) -> bool
+        ensures { result ≡ asks_source self.now }
+    {
+        match self.lines.front() {
+            Some(line) => is_skipped(line) || is_reload(line),
+            None => true,
+        }
     }
 
     /// The next line.
@@ -93,6 +61,8 @@ impl EventReader {
         ensures further { IfOk result (λ answer. IfSome answer (λ _. reader_passed self.old < reader_passed self.new)) }
         ensures within { IfOk result (λ answer. IfSome answer (λ _. reader_passed self.new ≤ file_limit)) }
         ensures small { IfOk result (λ answer. IfSome answer (λ _. reader_count self.new ≤ file_limit)) }
+        ensures whole { (line : List ℕ) → front_of self.old ≡ Some line →
+            (result ≢ Err WorldFault.ReadFault) × IfOk result (λ answer. answer ≡ Some line) }
         ensures live { OnOk result (is_spent_reader self.new ≡ false) }
         ensures counts { CountsWorld (S.faults source.old) (S.faults source.new) result }
     {
@@ -114,6 +84,8 @@ impl EventReader {
         ensures no_bad_event { IfErr result IsNoBadEvent }
         ensures further { IfOk result (λ answer. IfSome answer (λ _. reader_count self.old < reader_count self.new)) }
         ensures small { IfOk result (λ answer. IfSome answer (λ _. reader_count self.new ≤ file_limit)) }
+        ensures asked { asks_source self.old ≡ false →
+            (result ≢ Err WorldFault.ReadFault) × IfOk result (λ answer. IfSome answer (λ head. is_reload head ≡ false)) }
         ensures live { OnOk result (is_spent_reader self.new ≡ false) }
         ensures counts { CountsWorld (S.faults source.old) (S.faults source.new) result }
     {
@@ -139,6 +111,7 @@ impl EventReader {
         ensures bad_event { (number : ℕ) → result ≡ Err (WorldFault.BadEvent number) →
             IfSome (come_after held.old self.old (S.left source.old)) (λ file. file ≡ no_more (BadEvent number)) }
         ensures too_long { result ≡ Err WorldFault.TooLong → IfSome (come_after held.old self.old (S.left source.old)) (λ file. file ≡ no_more TooLong) }
+        ensures asked { wants_more held.old ≡ false → result ≢ Err WorldFault.ReadFault }
         ensures live { OnOk result (is_spent_reader self.new ≡ false) }
         ensures counts { CountsWorld (S.faults source.old) (S.faults source.new) result }
     {
@@ -170,6 +143,7 @@ impl EventReader {
         ensures too_long { result ≡ Err WorldFault.TooLong → IfSome (to_come self.old (S.left source.old)) (λ file. file ≡ no_more TooLong) }
         ensures further { IfOk result (λ answer. IfSome answer (λ _. reader_count self.old < reader_count self.new)) }
         ensures small { IfOk result (λ answer. IfSome answer (λ _. reader_count self.new ≤ file_limit)) }
+        ensures asked { asks_source self.old ≡ false → result ≢ Err WorldFault.ReadFault }
         ensures live { OnOk result (is_spent_reader self.new ≡ false) }
         ensures counts { CountsWorld (S.faults source.old) (S.faults source.new) result }
     {
