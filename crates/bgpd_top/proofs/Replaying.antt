@@ -51,12 +51,13 @@ turns_pass come (turn ∷ turns) first last passed =
     let note = told.1 in
     let gave = note.1 in
     let so_far = turns_pass come turns first gave.0 gave.1 in
-    let rest : come note.0 ≡ come last = note.2.1 ∙ told.2 ∙ passed.2 in
-    (so_far.0 ∙ ap (option_map (with_events (events_of (after [] turns)))) (gave.2 ∙ ap (option_map (with_event turn.event)) rest)
-        ∙ events_more (events_of (after [] turns)) turn.event (come last),
-     transcript-answer (Noted turn.ahead ∷ Gave turn.event ∷ talk) turn.answer
-        ∙ ap (λ bytes. (transcript_of talk ++ bytes) ++ answer_text turn.answer) note.2.0
-        ∙ ap (λ bytes. bytes ++ answer_text turn.answer) (append-nil (transcript_of talk) ∙ so_far.1))
+    let rest : come note.0 ≡ come last = note.2.1 ∙ told.2 ∙ passed.2 in (
+      so_far.0 ∙ ap (option_map (with_events (events_of (after [] turns)))) (gave.2 ∙ ap (option_map (with_event turn.event)) rest)
+          ∙ events_more (events_of (after [] turns)) turn.event (come last),
+      transcript-answer (Noted turn.ahead ∷ Gave turn.event ∷ talk) turn.answer
+          ∙ ap (λ bytes. (transcript_of talk ++ bytes) ++ answer_text turn.answer) note.2.0
+          ∙ ap (λ bytes. bytes ++ answer_text turn.answer) (append-nil (transcript_of talk) ∙ so_far.1),
+    )
 
 run_of : (turns : List Turn) → AreAnswered [] turns → IsRun (after [] turns)
 run_of [] answered = tt

@@ -33,7 +33,6 @@ append_thrice known first second third a b c x y z =
     z ∙ ap (λ k. append_known k c) (y ∙ ap (λ k. append_known k b) x ∙ append_twice known a b)
     ∙ append_twice known (a ++ b) c ∙ ap (append_known known) (append_assoc a b c)
 
-
 pub transcript-lines : (talk : List Talk) (lines : List Line) → transcript_of (fold with_line talk lines) ≡ transcript_of talk ++ flat_map ended_line lines
 transcript-lines talk [] = sym (append-nil (transcript_of talk))
 transcript-lines talk (line ∷ lines) =

@@ -75,11 +75,17 @@ returns-in-Some-clause-whole g c = λ line is.
     (λ fault. cc, search rules)
 
 pub loop-lines-preserved : goal.loop-lines-preserved
-loop-lines-preserved g c = (search rules, search rules, grind (arith, common_steps), search rules, λ line is.
-    let same = c.loop-lines.invariant.4 line is in
-    let held = c.fill.ensures.held (rw same (whole-bytes c.args.lines.now line is)) in
-    let told = c.in_ok-line.ensures.whole line (rw held.1 (rw same is)) in
-    absurd (c.in_default.not-Some line told))
+loop-lines-preserved g c = (
+  search rules,
+  search rules,
+  grind (arith, common_steps),
+  search rules,
+  λ line is.
+      let same = c.loop-lines.invariant.4 line is in
+      let held = c.fill.ensures.held (rw same (whole-bytes c.args.lines.now line is)) in
+      let told = c.in_ok-line.ensures.whole line (rw held.1 (rw same is)) in
+      absurd (c.in_default.not-Some line told),
+)
 
 pub returns-clause-whole : goal.returns-clause-whole
 returns-clause-whole g c = λ line is.
