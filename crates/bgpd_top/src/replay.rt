@@ -3,11 +3,11 @@ ghost use Rattle.std.specs.Prelude.{◌≢◌, ◌≡◌, ◌+◌, ◌<◌, ◌�
 ghost use Rattle.io_edge.specs.Reading.{lines_ahead, fault_ahead, Ends};
 ghost use Rattle.io_edge.specs.FileLines.{file_limit};
 ghost use Rattle.bgpd_top.specs.Faults.{of_line, CountsWorld, IsNoBadEvent};
-ghost use Rattle.event_text.specs.Grammar.{is_skipped, is_reload, no_more, with_event, FileEvents, Ended, BadEvent, TooLong};
+ghost use Rattle.event_text.specs.Grammar.{is_skipped, no_more, with_event, FileEvents, Ended, BadEvent, TooLong};
 
 use crate::world::WorldFault;
 use core_msgs::Event;
-use event_text::{EventFault, LinesHeld, is_reload, is_skipped, read_event};
+use event_text::{EventFault, LinesHeld, is_skipped, read_event};
 use io_edge::{Lines, Source, read_line};
 use net_base::{Bytes, NoMemory};
 use std::alloc::Global;
@@ -22,7 +22,7 @@ pub struct EventReader {
 }
 
 impl EventReader {
-    ghost use Rattle.bgpd_top.specs.Reader.{IsFresh, reader_lines, reader_fault, reader_passed, to_come, reader_count, is_spent_reader, EndsTooLong, before_head, come_after, front_of, asks_source};
+    ghost use Rattle.bgpd_top.specs.Reader.{IsFresh, reader_lines, reader_fault, reader_passed, to_come, reader_count, is_spent_reader, EndsTooLong, before_head, come_after};
     ghost use Rattle.event_text.specs.Held.{wants_more};
     ghost use Rattle.bgpd_top.specs.Ahead.{held_then_come, events_to_come};
 
@@ -34,17 +34,6 @@ impl EventReader {
             lines: Lines::new(alloc)?,
             count: 0,
         })
-    }
-
-    /// Whether the next event may need a read of the source. It doesn't where its line is wholly there, and isn't passed
-    /// over or the first of several.
-    pub fn asks(&self) -> bool
-        ensures { result ≡ asks_source self.now }
-    {
-        match self.lines.front() {
-            Some(line) => is_skipped(line) || is_reload(line),
-            None => true,
-        }
     }
 
     /// The next line.
@@ -61,8 +50,6 @@ impl EventReader {
         ensures further { IfOk result (λ answer. IfSome answer (λ _. reader_passed self.old < reader_passed self.new)) }
         ensures within { IfOk result (λ answer. IfSome answer (λ _. reader_passed self.new ≤ file_limit)) }
         ensures small { IfOk result (λ answer. IfSome answer (λ _. reader_count self.new ≤ file_limit)) }
-        ensures whole { (line : List ℕ) → front_of self.old ≡ Some line →
-            (result ≢ Err WorldFault.ReadFault) × IfOk result (λ answer. answer ≡ Some line) }
         ensures live { OnOk result (is_spent_reader self.new ≡ false) }
         ensures counts { CountsWorld (S.faults source.old) (S.faults source.new) result }
     {
@@ -84,8 +71,6 @@ impl EventReader {
         ensures no_bad_event { IfErr result IsNoBadEvent }
         ensures further { IfOk result (λ answer. IfSome answer (λ _. reader_count self.old < reader_count self.new)) }
         ensures small { IfOk result (λ answer. IfSome answer (λ _. reader_count self.new ≤ file_limit)) }
-        ensures asked { asks_source self.old ≡ false →
-            (result ≢ Err WorldFault.ReadFault) × IfOk result (λ answer. IfSome answer (λ head. is_reload head ≡ false)) }
         ensures live { OnOk result (is_spent_reader self.new ≡ false) }
         ensures counts { CountsWorld (S.faults source.old) (S.faults source.new) result }
     {
@@ -111,7 +96,6 @@ impl EventReader {
         ensures bad_event { (number : ℕ) → result ≡ Err (WorldFault.BadEvent number) →
             IfSome (come_after held.old self.old (S.left source.old)) (λ file. file ≡ no_more (BadEvent number)) }
         ensures too_long { result ≡ Err WorldFault.TooLong → IfSome (come_after held.old self.old (S.left source.old)) (λ file. file ≡ no_more TooLong) }
-        ensures asked { wants_more held.old ≡ false → result ≢ Err WorldFault.ReadFault }
         ensures live { OnOk result (is_spent_reader self.new ≡ false) }
         ensures counts { CountsWorld (S.faults source.old) (S.faults source.new) result }
     {
@@ -143,7 +127,6 @@ impl EventReader {
         ensures too_long { result ≡ Err WorldFault.TooLong → IfSome (to_come self.old (S.left source.old)) (λ file. file ≡ no_more TooLong) }
         ensures further { IfOk result (λ answer. IfSome answer (λ _. reader_count self.old < reader_count self.new)) }
         ensures small { IfOk result (λ answer. IfSome answer (λ _. reader_count self.new ≤ file_limit)) }
-        ensures asked { asks_source self.old ≡ false → result ≢ Err WorldFault.ReadFault }
         ensures live { OnOk result (is_spent_reader self.new ≡ false) }
         ensures counts { CountsWorld (S.faults source.old) (S.faults source.new) result }
     {
