@@ -2,4 +2,5 @@ pub mod Causes
 pub mod CheckStatuses
 pub mod Coming
 pub mod FrontOfText
+pub mod Replaying
 pub mod ServingLemmas

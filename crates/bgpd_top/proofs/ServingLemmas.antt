@@ -1,32 +1,28 @@
 -- What serving has done so far, at its beginning, behind each event, and at its end.
-use Rattle.std.proofs.Common.{◌≡◌, ℕ, List, [], ◌∷◌, ◌++◌, Option, None, Some, option_map, IfSome, Err, refl, sym, ap, ◌∙◌, append_assoc, append-nil}
+use Rattle.std.proofs.Common.{◌≡◌, ℕ, List, [], ◌∷◌, ◌++◌, flat_map, fold, Option, None, Some, IfSome, Ok, Err, refl, sym, ap, ◌∙◌, append_assoc, append-nil}
 use Rattle.std.specs.Io.KnownBytes.{append_known}
 use Rattle.core_msgs.specs.declared.event.Event.{Event}
-use Rattle.event_text.specs.Grammar.{FileEnd, FileEvents, no_more, with_event, BadEvent, TooLong}
-use Rattle.event_text.specs.Lines.{answer_text}
+use Rattle.core_msgs.specs.declared.answer.Answer.{Answer}
+use Rattle.core_msgs.specs.declared.answer.Line.{Line}
+use Rattle.event_text.specs.Lines.{answer_text, ended_line}
 use Rattle.run_record.specs.Run.{History}
-use Rattle.run_record.specs.Answers.{step}
 use Rattle.cores_link.specs.declared.router.Router.{Router}
 use Rattle.cores_link.specs.Routers.{Stands}
-use Rattle.bgpd_top.specs.Transcript.{events_of, text_of, with_events, Transcribes, TranscribesFront}
-use Rattle.bgpd_top.specs.ServeCauses.{EventServed, of_world}
-use Rattle.bgpd_top.specs.Serving.{Served, Ends}
-use Rattle.bgpd_top.specs.declared.replay.WorldFault.{WorldFault}
-use Rattle.bgpd_top.specs.declared.replay.WorldFault.TheVariants as world
+use Rattle.bgpd_top.specs.World.{Talk, Gave, Closed, Noted, Heard, Passed, said_by, end_behind}
+use Rattle.bgpd_top.specs.Serving.{Turn, talk_of, transcript_of, with_line, with_answer, after, Served, ServedAll, end_told, failure_of}
+use Rattle.bgpd_top.specs.ServeCauses.{EventServed, NotedBehind, AnswersNext, end_next, of_world}
+use Rattle.bgpd_top.specs.declared.world.WorldEnd.{WorldEnd}
+use Rattle.bgpd_top.specs.declared.world.WorldEnd.TheVariants.{Open, Ended, Failed}
+use Rattle.bgpd_top.specs.declared.world.WorldFault.{WorldFault}
+use Rattle.bgpd_top.specs.declared.world.WorldFault.TheVariants as world
+use Rattle.bgpd_top.specs.declared.serving.ServeFault.{ServeFault}
+use Rattle.bgpd_top.specs.declared.serving.ServeFault.TheVariants as fault
 
 pub append_none : (known : Option (List ℕ)) → known ≡ append_known known []
 append_none None = refl
 append_none (Some bytes) = ap Some (sym (append-nil bytes))
 
-events_none : (file : Option FileEvents) → file ≡ option_map (with_events []) file
-events_none None = refl
-events_none (Some all) = refl
-
--- nothing is served yet
-pub served_none : (router : Router) (file : Option FileEvents) (before : Option (List ℕ)) → Stands router [] → Served router file file before before
-served_none router file before stands = record { history = []; stands = stands; run = tt; events = events_none file; text = append_none before }
-
-append_twice : (known : Option (List ℕ)) (a b : List ℕ) → append_known (append_known known a) b ≡ append_known known (a ++ b)
+pub append_twice : (known : Option (List ℕ)) (a b : List ℕ) → append_known (append_known known a) b ≡ append_known known (a ++ b)
 append_twice None a b = refl
 append_twice (Some bytes) a b = ap Some (append_assoc bytes a b)
 
@@ -37,59 +33,89 @@ append_thrice known first second third a b c x y z =
     z ∙ ap (λ k. append_known k c) (y ∙ ap (λ k. append_known k b) x ∙ append_twice known a b)
     ∙ append_twice known (a ++ b) c ∙ ap (append_known known) (append_assoc a b c)
 
-events_more : (events : List Event) (event : Event) (now : Option FileEvents) →
-    option_map (with_events events) (option_map (with_event event) now) ≡ option_map (with_events (events ++ event ∷ [])) now
-events_more events event None = refl
-events_more events event (Some rest) = ap (λ all. Some (record { events = all; end = rest.end })) (sym (append_assoc events (event ∷ []) rest.events))
+pub transcript-lines : (talk : List Talk) (lines : List Line) → transcript_of (fold with_line talk lines) ≡ transcript_of talk ++ flat_map ended_line lines
+transcript-lines talk [] = sym (append-nil (transcript_of talk))
+transcript-lines talk (line ∷ lines) =
+    transcript-lines (Heard line ∷ talk) lines ∙ append_assoc (transcript_of talk) (ended_line line) (flat_map ended_line lines)
+
+-- the transcript of an answer that was handed over is its text
+pub transcript-answer : (talk : List Talk) (answer : Answer) → transcript_of (with_answer talk answer) ≡ transcript_of talk ++ answer_text answer
+transcript-answer talk answer =
+    ap (λ front. front ++ ended_line answer.last) (transcript-lines talk answer.lines)
+    ∙ append_assoc (transcript_of talk) (flat_map ended_line answer.lines) (ended_line answer.last)
+
+-- nothing is served yet
+pub served_none : {W : Type 0} (passes : W → Talk → W → Type 0) (before : History) (router : Router) (world : W) (written : Option (List ℕ)) →
+    Stands router before → Served passes before router world world written written
+served_none passes before router world written stands = record { turns = []; stands = stands; answered = tt; passed = refl; text = append_none written }
 
 -- one event more is served
-pub served_more : (router next : Router) (event : Event) (file now later : Option FileEvents) (before after written : Option (List ℕ)) →
-    Served router file now before after → now ≡ option_map (with_event event) later →
-    ((h : History) → Stands router h → EventServed h event next after written) → Served next file later before written
-served_more router next event file now later before after written so_far comes does =
-    let one : EventServed so_far.history event next after written = does so_far.history so_far.stands in
+pub served_more : {W : Type 0} (passes : W → Talk → W → Type 0) (before : History) (router next : Router) (event : Event) (first now given later : W)
+    (w w1 w2 w3 : Option (List ℕ)) → Served passes before router first now w w1 → NotedBehind passes now given w1 w2 (Gave event) →
+    ((h : History) → Stands router h → EventServed passes h event next given later w2 w3) → Served passes before next first later w w3
+served_more passes before router next event first now given later w w1 w2 w3 so_far came does =
+    let h : History = after before so_far.turns in
+    let one : EventServed passes h event next given later w2 w3 = does h so_far.stands in
+    let turn : Turn = record { event = event; ahead = came.ahead; answer = one.answer } in
+    let talk : List Talk = Noted came.ahead ∷ Gave event ∷ talk_of so_far.turns in
     record {
-      history = step event one.answer ∷ so_far.history;
+      turns = turn ∷ so_far.turns;
       stands = one.stands;
-      run = (one.answers, so_far.run);
-      events = so_far.events ∙ ap (option_map (with_events (events_of so_far.history))) comes ∙ events_more (events_of so_far.history) event later;
-      text = one.text ∙ ap (λ known. append_known known (answer_text one.answer)) so_far.text ∙ append_twice before (text_of so_far.history) (answer_text one.answer);
+      answered = (one.answers, so_far.answered);
+      passed = one.heard first talk (came.mid, (now, so_far.passed, came.passed), came.noted);
+      text = one.text ∙ ap (λ known. append_known known (answer_text one.answer)) (came.text ∙ ap (λ known. append_known known came.ahead) so_far.text
+          ∙ append_twice w (transcript_of (talk_of so_far.turns)) came.ahead)
+          ∙ append_twice w (transcript_of talk) (answer_text one.answer) ∙ ap (append_known w) (sym (transcript-answer talk one.answer));
     }
 
-ends_at : (end : FileEnd) (events : List Event) (now : Option FileEvents) → IfSome now (λ all. all ≡ no_more end) →
-    IfSome (option_map (with_events events) now) (λ all. all ≡ record { events = events; end = end })
-ends_at end events None h = tt
-ends_at end events (Some rest) h = ap (with_events events) h ∙ ap (λ all. record { events = all; end = end }) (append-nil events)
-
--- the file ends so behind the events that are served
-pub transcribes : (end : FileEnd) (router : Router) (file now : Option FileEvents) (before after : Option (List ℕ)) →
-    Served router file now before after → IfSome now (λ all. all ≡ no_more end) → Transcribes end file before after
-transcribes end router file now before after served ends = record {
-  history = served.history;
-  run = served.run;
-  events = rw served.events (ends_at end (events_of served.history) now ends);
-  text = served.text;
+-- the world gives no more
+pub served_all : {W : Type 0} (passes : W → Talk → W → Type 0) (end : WorldEnd) (before : History) (router : Router) (first now last : W)
+    (w w1 w2 : Option (List ℕ)) → Served passes before router first now w w1 → NotedBehind passes now last w1 w2 (Closed end) →
+    ServedAll passes end before router first last w w2
+served_all passes end before router first now last w w1 w2 so_far came = record {
+  turns = so_far.turns;
+  noted = came.ahead;
+  stands = so_far.stands;
+  answered = so_far.answered;
+  passed = (came.mid, (now, so_far.passed, came.passed), came.noted);
+  text = came.text ∙ ap (λ known. append_known known came.ahead) so_far.text ∙ append_twice w (transcript_of (talk_of so_far.turns)) came.ahead;
 }
 
-front_at : (events : List Event) (now : Option FileEvents) → IfSome (option_map (with_events events) now) (λ all. (rest : List Event) × (all.events ≡ events ++ rest))
-front_at events None = tt
-front_at events (Some rest) = (rest.events, refl)
+-- the world failed, or a write or memory did
+pub served_failed : {W : Type 0} (passes : W → Talk → W → Type 0) (fault : ServeFault) (before : History) (router : Router) (first now last : W)
+    (w w1 w2 : Option (List ℕ)) → Served passes before router first now w w1 → AnswersNext passes now last w1 w2 (Err fault) →
+    IfSome (failure_of fault) (λ end. ServedAll passes end before router first last w w2)
+served_failed passes (fault.BadEvent line) before router first now last w w1 w2 so_far came = served_all passes (Failed (world.BadEvent line)) before router first now last w w1 w2 so_far came
+served_failed passes fault.ReadFault before router first now last w w1 w2 so_far came = served_all passes (Failed world.ReadFault) before router first now last w w1 w2 so_far came
+served_failed passes fault.TooLong before router first now last w w1 w2 so_far came = served_all passes (Failed world.TooLong) before router first now last w w1 w2 so_far came
+served_failed passes fault.WriteFault before router first now last w w1 w2 so_far came = tt
+served_failed passes fault.NoMemory before router first now last w w1 w2 so_far came = tt
 
--- whatever is still to come
-pub transcribes_front : (router : Router) (file now : Option FileEvents) (before after : Option (List ℕ)) →
-    Served router file now before after → TranscribesFront file before after
-transcribes_front router file now before after served = record {
-  history = served.history;
-  run = served.run;
-  events = rw served.events (front_at (events_of served.history) now);
-  text = served.text;
-}
+-- what the world answered is what is answered of it
+pub answers_ok : {W : Type 0} (passes : W → Talk → W → Type 0) (answer : Option Event) (old new : W) (w w' : Option (List ℕ)) →
+    NotedBehind passes old new w w' (said_by (Ok answer)) → AnswersNext passes old new w w' (Ok answer)
+answers_ok passes None old new w w' came = came
+answers_ok passes (Some event) old new w w' came = came
 
--- the reader gives no further event
-pub ends_so : (fault : WorldFault) (router : Router) (file now : Option FileEvents) (before after : Option (List ℕ)) → Served router file now before after →
-    ((number : ℕ) → fault ≡ world.BadEvent number → IfSome now (λ all. all ≡ no_more (BadEvent number))) →
-    (fault ≡ world.TooLong → IfSome now (λ all. all ≡ no_more TooLong)) → Ends file before after (Err (of_world fault))
-ends_so (world.BadEvent line) router file now before after served bad long = transcribes (BadEvent line) router file now before after served (bad line refl)
-ends_so world.TooLong router file now before after served bad long = transcribes TooLong router file now before after served (long refl)
-ends_so world.ReadFault router file now before after served bad long = transcribes_front router file now before after served
-ends_so world.NoMemory router file now before after served bad long = tt
+pub answers_err : {W : Type 0} (passes : W → Talk → W → Type 0) (cause : WorldFault) (old new : W) (w w' : Option (List ℕ)) →
+    NotedBehind passes old new w w' (Closed (Failed cause)) → AnswersNext passes old new w w' (Err (of_world cause))
+answers_err passes (world.BadEvent line) old new w w' came = came
+answers_err passes world.ReadFault old new w w' came = came
+answers_err passes world.TooLong old new w w' came = came
+answers_err passes world.NoMemory old new w w' came = tt
+
+pub end_ok : (answer : Option Event) (end : WorldEnd) → end ≡ end_behind (Ok answer) → IfSome (end_next (Ok answer)) (λ told. end ≡ told)
+end_ok None end is = is
+end_ok (Some event) end is = is
+
+pub end_err : (cause : WorldFault) (end : WorldEnd) → end ≡ Failed cause → IfSome (failure_of (of_world cause)) (λ told. end ≡ told)
+end_err (world.BadEvent line) end is = is
+end_err world.ReadFault end is = is
+end_err world.TooLong end is = is
+end_err world.NoMemory end is = tt
+
+-- what is noted is held behind what was held, and what was held may have been written
+pub noted_behind : (o o' : Option (List ℕ)) (held held1 held2 ahead : List ℕ) → append_known o' held1 ≡ append_known o held → held2 ≡ held1 ++ ahead →
+    append_known o' held2 ≡ append_known (append_known o held) ahead
+noted_behind o o' held held1 held2 ahead flushed kept =
+    ap (append_known o') kept ∙ sym (append_twice o' held1 ahead) ∙ ap (λ known. append_known known ahead) flushed

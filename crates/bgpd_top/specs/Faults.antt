@@ -3,8 +3,8 @@ use Rattle.std.specs.Prelude.{◌≡◌, ℕ, Result, Ok, Err}
 use Rattle.io_edge.specs.Faults.{Rose}
 use Rattle.io_edge.specs.declared.lines.LineFault.{LineFault}
 use Rattle.io_edge.specs.declared.lines.LineFault.TheVariants as line
-use Rattle.bgpd_top.specs.declared.replay.WorldFault.{WorldFault}
-use Rattle.bgpd_top.specs.declared.replay.WorldFault.TheVariants as world
+use Rattle.bgpd_top.specs.declared.world.WorldFault.{WorldFault}
+use Rattle.bgpd_top.specs.declared.world.WorldFault.TheVariants as world
 
 abbrev pub of_line : LineFault → WorldFault
 of_line line.ReadFault = world.ReadFault

@@ -3,7 +3,9 @@ pub mod Checking
 pub mod Command
 pub mod Faults
 pub mod Reader
+pub mod ReplayWorlds
 pub mod ServeCauses
 pub mod Serving
 pub mod Transcript
 pub mod Words
+pub mod World

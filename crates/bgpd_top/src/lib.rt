@@ -4,12 +4,16 @@
 mod checking;
 mod program;
 mod replay;
+mod replay_world;
 mod serving;
+mod world;
 
 pub use checking::{CheckFault, check_file};
 pub use program::{Command, bgpd_main};
-pub use replay::{EventReader, WorldFault};
+pub use replay::EventReader;
+pub use replay_world::ReplayWorld;
 pub use serving::{ServeFault, serve};
+pub use world::{World, WorldEnd, WorldFault};
 
 #[cfg(test)]
 mod check_tests;

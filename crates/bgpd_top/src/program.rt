@@ -9,6 +9,7 @@ ghost use Rattle.bgpd_top.specs.Words.{usage_text, help_text, version_text};
 
 use crate::checking::check_file;
 use crate::replay::EventReader;
+use crate::replay_world::ReplayWorld;
 use crate::serving::{ServeFault, serve};
 use cores_link::Router;
 use io_edge::{Clock, Failed, Files, PeerNet, Sink, Source};
@@ -211,10 +212,11 @@ fn serve_events<I: Source, O: Sink>(
     let Ok(mut router) = Router::new(alloc) else {
         return Err(ServeFault::NoMemory);
     };
-    let Ok(mut reader) = EventReader::new(alloc) else {
+    let Ok(reader) = EventReader::new(alloc) else {
         return Err(ServeFault::NoMemory);
     };
-    serve(alloc, &mut router, &mut reader, input, out)
+    let mut world = ReplayWorld::new(alloc, reader, input);
+    serve(alloc, &mut router, &mut world, out)
 }
 
 /// The status of the program behind a fault.

@@ -5,55 +5,12 @@ ghost use Rattle.io_edge.specs.FileLines.{file_limit};
 ghost use Rattle.bgpd_top.specs.Faults.{of_line, CountsWorld, IsNoBadEvent};
 ghost use Rattle.event_text.specs.Grammar.{is_skipped, no_more, with_event, FileEvents, Ended, BadEvent, TooLong};
 
+use crate::world::WorldFault;
 use core_msgs::Event;
 use event_text::{EventFault, LinesHeld, is_skipped, read_event};
-use io_edge::{LineFault, Lines, Source, read_line};
+use io_edge::{Lines, Source, read_line};
 use net_base::{Bytes, NoMemory};
 use std::alloc::Global;
-use thiserror::Error;
-
-/// Why a world gives no event.
-#[derive(Clone, Copy, Debug, PartialEq, Eq, Error)]
-pub enum WorldFault {
-    /// The line of this number, counted from 1, isn't of the grammar of events.
-    #[error("line {0}: bad event")]
-    BadEvent(u32),
-    /// The source failed.
-    #[error("read fault")]
-    ReadFault,
-    /// A line or the file is past its limit.
-    #[error("too long")]
-    TooLong,
-    /// Memory was refused.
-    #[error("no memory")]
-    NoMemory,
-}
-
-impl From<LineFault> for WorldFault {
-    ghost use Rattle.std.specs.Prelude.{◌≡◌};
-    ghost use Rattle.bgpd_top.specs.Faults.{of_line};
-
-    ghost from_gives = { λ cause fault. fault ≡ of_line cause };
-
-    fn from(cause: LineFault) -> Self {
-        match cause {
-            LineFault::ReadFault => WorldFault::ReadFault,
-            LineFault::LineTooLong | LineFault::FileTooLong => WorldFault::TooLong,
-            LineFault::NoMemory => WorldFault::NoMemory,
-        }
-    }
-}
-
-impl From<NoMemory> for WorldFault {
-    ghost use Rattle.std.specs.Prelude.{◌≡◌};
-    ghost use Rattle.bgpd_top.specs.declared.replay.WorldFault.TheVariants.{NoMemory};
-
-    ghost from_gives = { λ _ fault. fault ≡ NoMemory };
-
-    fn from(_: NoMemory) -> Self {
-        WorldFault::NoMemory
-    }
-}
 
 /// A reader of the events of an event file.
 #[derive(Debug, Drop)]

@@ -1,3 +1,4 @@
 mod Splits
 mod Below
 mod Behind
+mod Transcripts

@@ -58,7 +58,8 @@ pub fn is_skipped(line: &[u8]) -> bool
     }
 }
 
-fn is_reload(line: &[u8]) -> bool
+/// Whether a line begins a `reload`, whose text stands in the lines behind it.
+pub fn is_reload(line: &[u8]) -> bool
     ensures { result ≡ is_reload line.now }
 {
     line == b"reload".as_slice()

@@ -1,3 +1,4 @@
+mod Front
 mod LineLists
 mod LinesAhead
 mod Moves

@@ -1,7 +1,7 @@
 -- The lines of a file of events, and the two limits at which its reading ends with a fault.
 use Rattle.std.specs.Prelude.{ℕ, ◌+◌, Bool, ◌&&◌, ◌==◌, nat_lt, nat_le, if◌then◌else◌, List, [], ◌∷◌, length, Option, None, Some}
 use Rattle.std.specs.List.{before_first}
-use Rattle.std.specs.Option.{option_map_or, option_or}
+use Rattle.std.specs.Option.{option_map, option_map_or, option_or}
 use Rattle.io_edge.specs.declared.lines.LineFault.{LineFault}
 use Rattle.io_edge.specs.declared.lines.LineFault.TheVariants.{LineTooLong, FileTooLong}
 
@@ -27,6 +27,11 @@ unfoldable pub lines_with_ends : List ℕ → List (List ℕ)
 lines_with_ends [] = []
 lines_with_ends (byte ∷ bytes) =
     if is_newline byte then (byte ∷ []) ∷ lines_with_ends bytes else in_front byte (lines_with_ends bytes)
+
+-- the bytes before the first LF, where there is one
+unfoldable pub first_line : List ℕ → Option (List ℕ)
+first_line [] = None
+first_line (byte ∷ bytes) = if is_newline byte then Some [] else option_map (λ line. byte ∷ line) (first_line bytes)
 
 -- a line without the LF that ends it
 abbrev pub without_end : List ℕ → List ℕ

@@ -4,7 +4,7 @@ use Rattle.std.specs.List.{All}
 use Rattle.std.specs.Option.{option_map}
 use Rattle.std.specs.Io.KnownBytes.{prepend_known, IsAtEnd}
 use Rattle.io_edge.specs.Faults.{Rose}
-use Rattle.io_edge.specs.FileLines.{line_limit, file_limit, fault_at, lines_in, fault_in}
+use Rattle.io_edge.specs.FileLines.{line_limit, file_limit, fault_at, lines_in, fault_in, first_line}
 use Rattle.io_edge.specs.declared.lines.LineFault.{LineFault}
 use Rattle.io_edge.specs.declared.lines.LineFault.TheVariants.{ReadFault, LineTooLong, FileTooLong, NoMemory}
 
@@ -21,6 +21,14 @@ pub record Reading : Type 0 where
 -- the bytes of the file from the line under way on, where the source tells those that it has left
 abbrev pub ahead : Reading → Option (List ℕ) → Option (List ℕ)
 ahead reading left = prepend_known (reading.begun ++ reading.buffered) left
+
+-- the line under way, where it came whole with its LF, and nothing was read of it yet
+abbrev pub unless_begun : List ℕ → Option (List ℕ) → Option (List ℕ)
+unless_begun [] line = line
+unless_begun (byte ∷ begun) line = None
+
+abbrev pub whole_line : Reading → Option (List ℕ)
+whole_line reading = unless_begun reading.begun (first_line reading.buffered)
 
 -- the lines that are still to be answered, where the source tells
 unfoldable pub lines_ahead : Reading → Option (List ℕ) → Option (List (List ℕ))

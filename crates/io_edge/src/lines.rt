@@ -4,7 +4,7 @@ ghost use Rattle.std.specs.List.{All};
 ghost use Rattle.std.specs.Option.{option_map};
 ghost use Rattle.std.specs.Io.KnownBytes.{IsAtEnd};
 ghost use Rattle.io_edge.specs.FileLines.{file_limit, fault_at};
-ghost use Rattle.io_edge.specs.Reading.{ahead, lines_ahead, fault_ahead, Ends, IsCutOff, IsLine, IsFirstNewline, Advances, HoldsTooMany, CountsReads, is_spent_by};
+ghost use Rattle.io_edge.specs.Reading.{ahead, lines_ahead, fault_ahead, Ends, IsCutOff, IsLine, IsFirstNewline, Advances, HoldsTooMany, CountsReads, is_spent_by, whole_line};
 ghost use Rattle.io_edge.specs.declared.lines.LineFault.TheVariants.{LineTooLong, FileTooLong};
 
 use crate::{Failed, Source};
@@ -88,7 +88,7 @@ impl Model for Lines {
 impl Lines {
     ghost use Rattle.std.specs.Io.KnownBytes.{prepend_known, IsAtEnd};
     ghost use Rattle.io_edge.specs.Faults.{CountsFailure};
-    ghost use Rattle.io_edge.specs.Reading.{Reading, ahead, IsUnderWay, EndsLine, GoesOn, KeepsBytes, StepFault, is_end_of_reading};
+    ghost use Rattle.io_edge.specs.Reading.{Reading, ahead, IsUnderWay, EndsLine, GoesOn, KeepsBytes, StepFault, is_end_of_reading, whole_line};
 
     /// A reader at the beginning of a file.
     pub fn new(alloc: Global) -> Result<Self, AllocError>
@@ -114,12 +114,28 @@ impl Lines {
         self.spent
     }
 
+    /// The next line without its LF, where it came whole already: `read_line` then answers it without a read of the
+    /// source, unless memory is refused or a limit is passed.
+    pub fn front(&self) -> Option<&[u8]>
+        ensures { MatchOption result (whole_line self.now ≡ None) (λ line. whole_line self.now ≡ Some line.now) }
+    {
+        if !self.begun.is_empty() {
+            return None;
+        }
+        let piece = &self.buffer[self.start..self.end];
+        match newline_in(piece) {
+            None => None,
+            Some(at) => Some(&piece[..at]),
+        }
+    }
+
     // Asks the source for bytes where none are buffered, and answers whether any are then.
     fn fill<S: Source>(&mut self, source: &mut S) -> Result<bool, Failed>
         ensures some { result ≡ Ok true → 0 < length self.new.buffered }
         ensures none { result ≡ Ok false → (self.new.buffered ≡ []) × IsAtEnd (S.left source.new) }
         ensures line { (self.new.passed ≡ self.old.passed) × (self.new.begun ≡ self.old.begun) }
         ensures bytes { prepend_known self.old.buffered (S.left source.old) ≡ prepend_known self.new.buffered (S.left source.new) }
+        ensures held { 0 < length self.old.buffered → (result ≡ Ok true) × (self.new ≡ self.old) }
         ensures spent { OnOk result (self.new.spent ≡ self.old.spent) }
         ensures failed { OnErr result (self.new.spent ≡ true) }
         ensures count { CountsFailure (S.faults source.old) (S.faults source.new) result }
@@ -145,6 +161,7 @@ impl Lines {
     fn step(&mut self) -> Result<Option<Bytes>, LineFault>
         ensures line { IfOk result (λ answer. IfSome answer (EndsLine self.old self.new)) }
         ensures on { result ≡ Ok None → GoesOn self.old self.new }
+        ensures whole { (line : List ℕ) → whole_line self.old ≡ Some line → IfOk result (λ answer. answer ≡ Some line) }
         ensures spent { OnOk result (self.new.spent ≡ self.old.spent) }
         ensures kept { OnErr result (KeepsBytes self.old self.new) }
         ensures fault { IfErr result (StepFault self.old) }
@@ -254,6 +271,8 @@ pub fn read_line<S: Source>(lines: &mut Lines, source: &mut S) -> Result<Option<
     ensures advances { IfOk result (λ answer. IfSome answer (Advances lines.old lines.new)) }
     ensures passed { (OnErr result (lines.new.passed ≡ lines.old.passed)) × (result ≡ Ok None → lines.new.passed ≡ lines.old.passed) }
     ensures too_many { IfErr result (HoldsTooMany lines.new) }
+    ensures whole { (line : List ℕ) → whole_line lines.old ≡ Some line →
+        (result ≢ Err LineFault.ReadFault) × IfOk result (λ answer. answer ≡ Some line) }
     ensures count { CountsReads (S.faults source.old) (S.faults source.new) result }
     ensures spent { lines.new.spent ≡ is_spent_by result }
 {

@@ -1,8 +1,10 @@
-use Rattle.std.proofs.Common.{◌≡◌, sym, ◌∙◌, rules, None, Some}
+use Rattle.std.proofs.Common.{◌≡◌, sym, ◌∙◌, rules, arith, None, Some}
+use Rattle.std.proofs.lemmas.Grind.{common_steps}
 use Rattle.io_edge.specs.Reading.{EndsLine}
 use Rattle.io_edge.specs.declared.lines.LineFault.TheVariants.{LineTooLong, FileTooLong}
 use Rattle.io_edge.proofs.LinesAhead.{lines_ahead-same, fault_ahead-same, lines_ahead-line, fault_ahead-line, last-line, last-no_fault, ends-nothing, ends-same, ends-step, ahead-filled}
 use Rattle.io_edge.proofs.Steps.{step-too_many}
+use Rattle.io_edge.proofs.Front.{whole-bytes}
 use Rattle.io_edge.proofs.lines.read_line.Goals as goal
 
 pub returns-in-Some-clause-line : goal.returns-in-Some-clause-line
@@ -57,4 +59,36 @@ returns-in_err-line-clause-file_too_long g c = λ is.
 pub returns-in_err-line-clause-too_many : goal.returns-in_err-line-clause-too_many
 returns-in_err-line-clause-too_many g c =
     let fault = step-too_many c.fill.new.self c.step.new.self c.in_err-line.field-0.0 c.in_err-line.ensures.fault c.in_err-line.ensures.kept in
+    search rules
+
+pub returns-in_err-fill-clause-whole : goal.returns-in_err-fill-clause-whole
+returns-in_err-fill-clause-whole g c = λ line is.
+    let same = c.loop-lines.invariant.4 line is in
+    let held = c.fill.ensures.held (rw same (whole-bytes c.args.lines.now line is)) in
+    search rules
+
+pub returns-in-Some-clause-whole : goal.returns-in-Some-clause-whole
+returns-in-Some-clause-whole g c = λ line is.
+    let same = c.loop-lines.invariant.4 line is in
+    let held = c.fill.ensures.held (rw same (whole-bytes c.args.lines.now line is)) in
+    let told = c.in_ok-line.ensures.whole line (rw held.1 (rw same is)) in
+    (λ fault. cc, search rules)
+
+pub loop-lines-preserved : goal.loop-lines-preserved
+loop-lines-preserved g c = (
+  search rules,
+  search rules,
+  grind (arith, common_steps),
+  search rules,
+  λ line is.
+      let same = c.loop-lines.invariant.4 line is in
+      let held = c.fill.ensures.held (rw same (whole-bytes c.args.lines.now line is)) in
+      let told = c.in_ok-line.ensures.whole line (rw held.1 (rw same is)) in
+      absurd (c.in_default.not-Some line told),
+)
+
+pub returns-clause-whole : goal.returns-clause-whole
+returns-clause-whole g c = λ line is.
+    let same = c.loop-lines.invariant.4 line is in
+    let held = c.fill.ensures.held (rw same (whole-bytes c.args.lines.now line is)) in
     search rules

@@ -1,7 +1,7 @@
 use Rattle.std.proofs.Common.{◌≡◌, Err, sym, ap, ◌∙◌}
 use Rattle.std.proofs.lemmas.Result.{err_from_is_err_and}
 use Rattle.bgpd_top.specs.Reader.{reader_count, reader_lines, reader_fault}
-use Rattle.bgpd_top.specs.declared.replay.WorldFault.TheVariants.{BadEvent}
+use Rattle.bgpd_top.specs.declared.world.WorldFault.TheVariants.{BadEvent}
 use Rattle.bgpd_top.proofs.Coming.{bad_event_comes}
 use Rattle.bgpd_top.proofs.replay.EventReader.next.Goals as goal
 
