@@ -4,3 +4,5 @@ pub mod Export
 pub mod Tables
 pub mod Loc
 pub mod Networks
+pub mod Same
+pub mod Sent

@@ -123,7 +123,7 @@ fn add_told<M: Members, L: Ledger>(
 
 /// Adds attributes, where there are some.
 fn add_if(found: Option<&Attrs>, seen: &mut Vec<Attrs>) -> Result<(), NoMemory>
-    ensures { OnOk result (seen.new.items ≡ fold with_new seen.old.items (option_to_list (option_copied found))) }
+    ensures { OnOk result (seen.new.items ≡ fold with_new seen.old.items (option_to_list (option_copied found.entry))) }
 {
     match found {
         None => Ok(()),
