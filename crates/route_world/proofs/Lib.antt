@@ -7,3 +7,4 @@ mod Steady
 mod GoodCandidates
 mod GoodExport
 mod NetworkRows
+mod Folding

@@ -19,7 +19,7 @@ use std::sync::ledger::Ledger;
 
 /// How many different attributes the held routes of a world, the candidates of all its RIBs and the routes that its
 /// sessions are told have.
-#[tactic(auto, unfolding(crate::specs::Loc::distinct))]
+#[tactic(auto, using(crate::proofs::Folding::fold_joined), unfolding(crate::specs::Loc::distinct))]
 pub fn distinct<M: Members, L: Ledger>(
     alloc: Global,
     world: &World,
@@ -41,6 +41,7 @@ pub fn distinct<M: Members, L: Ledger>(
 }
 
 /// Adds those of a prefix.
+#[tactic(auto, using(crate::proofs::Folding::fold_joined))]
 fn add_at<M: Members, L: Ledger>(
     alloc: Global,
     world: &World,
@@ -61,6 +62,7 @@ fn add_at<M: Members, L: Ledger>(
 }
 
 /// Adds those of the routes of a prefix that sessions hold.
+#[tactic(auto, using(crate::proofs::Folding::fold_joined))]
 fn add_held(sessions: &[Session], prefix: Prefix, seen: &mut Vec<Attrs>) -> Result<(), NoMemory>
     ensures { OnOk result (seen.new.items ≡ fold with_new seen.old.items (flat_map (held_at prefix) sessions.now)) }
 {
@@ -71,6 +73,7 @@ fn add_held(sessions: &[Session], prefix: Prefix, seen: &mut Vec<Attrs>) -> Resu
 }
 
 /// Adds those of the candidates of a prefix in each RIB.
+#[tactic(auto, using(crate::proofs::Folding::fold_joined))]
 fn add_ribs<M: Members, L: Ledger>(
     alloc: Global,
     world: &World,
@@ -101,6 +104,7 @@ fn add_candidates(found: &[Candidate], seen: &mut Vec<Attrs>) -> Result<(), NoMe
 }
 
 /// Adds those of the routes of a prefix that sessions are told.
+#[tactic(auto, using(crate::proofs::Folding::fold_joined))]
 fn add_told<M: Members, L: Ledger>(
     alloc: Global,
     world: &World,
