@@ -7,4 +7,3 @@ mod Steady
 mod GoodCandidates
 mod GoodExport
 mod NetworkRows
-mod Folding

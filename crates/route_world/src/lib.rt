@@ -2,7 +2,6 @@
 //! stays as plain as the definitions.
 #![tactic(auto)]
 
-mod counting;
 mod exporting;
 mod importing;
 mod laws;
@@ -11,7 +10,6 @@ mod rows;
 mod tables;
 mod world;
 
-pub use counting::distinct;
 pub use exporting::export;
 pub use importing::{CandidateList, candidates, import, network_attrs, network_candidate};
 pub use laws::{
@@ -22,6 +20,3 @@ pub use networks::network_rows;
 pub use rows::loc;
 pub use tables::{FibList, OutList, best_at, fib, known_prefixes, out};
 pub use world::{AnswerList, Hops, Session, SessionList, World};
-
-#[cfg(test)]
-mod tests;
