@@ -141,11 +141,11 @@ module _ (conf : Conf) (facts : OpenFacts) (neighbour : Neighbour) (prefix : Pre
   goes passed attrs e =
       option_and_then_some (if_it_fits facts.encoding prefix) (as_told conf facts neighbour prefix passed) attrs e
       (λ told is_told fits.
-        let fit = cond_some (nat_le (update_size facts.encoding told (length (prefix_bytes prefix))) 4096) told attrs fits in
-        subst (Goes passed) fit.1
-        (mapped (told_attrs conf facts.encoding.external passed.0) (told_hop own facts.encoding.external passed.1 passed.0.hop) told is_told
-        (λ hop is_hop same.
-          (subst (IsTold facts.encoding.external) same (told_attrs_told conf facts.encoding.external passed.0 hop), leb-true _ _ fit.0, λ good fits_too. subst (IsGood prefix) same (as_told_good passed hop is_hop good fits_too)))))
+      let fit = cond_some (nat_le (update_size facts.encoding told (length (prefix_bytes prefix))) 4096) told attrs fits in
+      subst (Goes passed) fit.1
+      (mapped (told_attrs conf facts.encoding.external passed.0) (told_hop own facts.encoding.external passed.1 passed.0.hop) told is_told
+      (λ hop is_hop same.
+      (subst (IsTold facts.encoding.external) same (told_attrs_told conf facts.encoding.external passed.0 hop), leb-true _ _ fit.0, λ good fits_too. subst (IsGood prefix) same (as_told_good passed hop is_hop good fits_too)))))
 
   abbrev kept_back : Candidate → Bool
   kept_back best = is_kept_back facts.encoding neighbour prefix best
@@ -169,14 +169,14 @@ module _ (conf : Conf) (facts : OpenFacts) (neighbour : Neighbour) (prefix : Pre
   export_good best attrs good e =
       exported best attrs e
       (λ passed free is_said went.
-        let steady = verdict_steady (export_context conf facts neighbour prefix) conf conf.rules (route best) passed (without_med_good prefix facts.encoding.external best.from best.attrs.attrs good) is_said in
-        record {
-          good = went.2 steady.0 steady.1;
-          agreed = exchanged best free;
-          weight = went.0.weight;
-          local_pref = went.0.local_pref;
-          fits = went.1;
-        })
+      let steady = verdict_steady (export_context conf facts neighbour prefix) conf conf.rules (route best) passed (without_med_good prefix facts.encoding.external best.from best.attrs.attrs good) is_said in
+      record {
+        good = went.2 steady.0 steady.1;
+        agreed = exchanged best free;
+        weight = went.0.weight;
+        local_pref = went.0.local_pref;
+        fits = went.1;
+      })
 
   pub export_local_pref : (best : Candidate) (attrs : Attrs) → export conf facts neighbour prefix best ≡ Some attrs → is_some attrs.local_pref ≡ not facts.encoding.external
   export_local_pref best attrs e = exported best attrs e (λ passed free is_said went. went.0.local_pref)
@@ -196,7 +196,7 @@ told_good world session neighbour prefix attrs good is_neighbour e =
     let told = λ (n : Neighbour). option_and_then (export world.conf session.facts n prefix) (best_in n) in
     option_and_then_some (export world.conf session.facts neighbour prefix) (best_in neighbour) attrs (sym (ap (option_and_then told) is_neighbour) ∙ e)
     (λ best is_best is_told.
-      let found = candidates world neighbour.rib prefix in
-      let there = best_there world.conf.med_always found best is_best in
-      export_good world.conf session.facts neighbour prefix best attrs
-      (member (IsGoodOne prefix) found there.0 best (candidates_good world neighbour.rib prefix good) there.1 there.2) is_told)
+    let found = candidates world neighbour.rib prefix in
+    let there = best_there world.conf.med_always found best is_best in
+    export_good world.conf session.facts neighbour prefix best attrs
+    (member (IsGoodOne prefix) found there.0 best (candidates_good world neighbour.rib prefix good) there.1 there.2) is_told)

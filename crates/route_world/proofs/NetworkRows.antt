@@ -112,7 +112,7 @@ module _ (conf : Conf) (hops : Hops) (rib : ℕ) where
       let found = ap (find (λ (n : Network). is_eq (prefix_cmp network.prefix n.prefix))) are ∙ found_behind before rest network above.0 in
       let next = above_more (map prefix_of_network before) network.prefix rest above.1 (first_below network rest ascend) in
       let others =
-        rows_behind (before ++ network ∷ []) rest (are ∙ sym (append_assoc before (network ∷ []) rest)) (rw (map-append prefix_of_network before (network ∷ [])) next) (rest_ascends network rest ascend)
+      rows_behind (before ++ network ∷ []) rest (are ∙ sym (append_assoc before (network ∷ []) rest)) (rw (map-append prefix_of_network before (network ∷ [])) next) (rest_ascends network rest ascend)
       in
       ap (λ (rows : List RouteRow). rows ++ flat_map (λ (n : Network). loc_at world rib n.prefix) rest) (row_at network found)
       ∙ ap (λ (rows : List RouteRow). network_row conf network ∷ rows) others

@@ -29,7 +29,7 @@ pub fn told_goes_by_the_best()
     ensures { (one other : World) (session twin : Session) (prefix : Prefix) →
         one.conf ≡ other.conf → session.peer ≡ twin.peer → session.facts ≡ twin.facts →
         ((neighbour : Neighbour) → neighbour_at one.conf session.peer ≡ Some neighbour →
-            best_at one neighbour.rib prefix ≡ best_at other neighbour.rib prefix) →
+        best_at one neighbour.rib prefix ≡ best_at other neighbour.rib prefix) →
         told_at one session prefix ≡ told_at other twin prefix }
 {}
 

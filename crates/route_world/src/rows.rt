@@ -86,11 +86,7 @@ fn origin_of_best(found: &CandidateList, med_always: bool) -> Option<Origin>
     Some(found[at].from)
 }
 
-fn row_of(
-    best: Option<Origin>,
-    prefix: Prefix,
-    candidate: &Candidate,
-) -> Result<RouteRow, NoMemory>
+fn row_of(best: Option<Origin>, prefix: Prefix, candidate: &Candidate) -> Result<RouteRow, NoMemory>
     ensures { IfOk result (λ row. row ≡ row_of best prefix candidate.now) }
 {
     let attrs: &Attrs = &candidate.attrs;
