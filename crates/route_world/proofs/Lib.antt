@@ -1,2 +1,9 @@
 mod Verdicts
 mod Few
+mod SameCandidates
+mod NoCandidates
+mod ToldBest
+mod Steady
+mod GoodCandidates
+mod GoodExport
+mod NetworkRows

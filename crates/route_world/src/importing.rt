@@ -314,9 +314,7 @@ pub fn network_candidate(
 ) -> Result<Candidate, NoMemory>
     ensures { IfOk result (λ candidate. candidate ≡ network_candidate conf.now network.now) }
 {
-    let context = network_context(conf, network.prefix);
-    let attrs = network_attrs(alloc, network.prefix.family);
-    let attrs = with_set(alloc, &context, &network.set, attrs)?;
+    let attrs = network_with_set(alloc, conf, network)?;
     Ok(Candidate {
         from: Origin::Local,
         attrs: unnumbered(alloc, attrs)?,
@@ -324,6 +322,19 @@ pub fn network_candidate(
         bgp_id: conf.router_id,
         own_as: conf.asn,
     })
+}
+
+/// The attributes of a network with its set.
+pub(crate) fn network_with_set(
+    alloc: Global,
+    conf: &Conf,
+    network: &Network,
+) -> Result<Attrs, NoMemory>
+    ensures { IfOk result (λ attrs. attrs ≡ (network_candidate conf.now network.now).attrs.attrs) }
+{
+    let context = network_context(conf, network.prefix);
+    let attrs = network_attrs(alloc, network.prefix.family);
+    with_set(alloc, &context, &network.set, attrs)
 }
 
 /// The attributes with which a network enters every RIB (RFC 4271 section 5.1).

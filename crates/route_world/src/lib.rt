@@ -4,12 +4,19 @@
 
 mod exporting;
 mod importing;
+mod laws;
 mod networks;
+mod rows;
 mod tables;
 mod world;
 
 pub use exporting::export;
 pub use importing::{CandidateList, candidates, import, network_attrs, network_candidate};
+pub use laws::{
+    candidates_go_by_their_routes, loc_of_networks, local_pref_is_told_within_the_own_as,
+    told_goes_by_the_best, unknown_prefixes_have_no_candidates, what_is_told_may_be_sent,
+};
 pub use networks::network_rows;
-pub use tables::{FibList, RouteList, best_at, fib, known_prefixes, out};
+pub use rows::loc;
+pub use tables::{FibList, OutList, best_at, fib, known_prefixes, out};
 pub use world::{AnswerList, Hops, Session, SessionList, World};

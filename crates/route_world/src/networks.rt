@@ -3,36 +3,30 @@
 ghost use Rattle.std.specs.Prelude.{◌≡◌, map, IfOk};
 ghost use Rattle.route_world.specs.Networks.{network_row, network_rows};
 
-use crate::importing::network_attrs;
+use crate::importing::network_with_set;
 use attr_model::{Flag, RouteList, RouteRow};
 use conf_tree::{Conf, Network};
 use net_base::{Items, NoMemory};
 use std::alloc::Global;
 
-/// The routes of the networks by prefix, each as the best of its prefix and without its set.
+/// The routes of the networks by prefix, each with its set and as the best of its prefix.
 pub fn network_rows(alloc: Global, conf: &Conf) -> Result<RouteList, NoMemory>
     ensures { IfOk result (λ rows. rows ≡ network_rows conf.now) }
 {
-    let rows = rows_of(alloc, conf.networks.as_slice())?;
-    Ok(Items::from_vec(rows))
+    let mut rows = Items::new(alloc);
+    for network in conf.networks.as_slice() {
+        rows.push(network_row(alloc, conf, network)?)?;
+    }
+    Ok(rows)
 }
 
-fn rows_of(alloc: Global, networks: &[Network]) -> Result<Vec<RouteRow>, NoMemory>
-    ensures { IfOk result (λ rows. rows.items ≡ map network_row networks.now) }
+fn network_row(alloc: Global, conf: &Conf, network: &Network) -> Result<RouteRow, NoMemory>
+    ensures { IfOk result (λ row. row ≡ network_row conf.now network.now) }
 {
-    networks
-        .iter()
-        .map(|network| network_row(alloc, network))
-        .collect(alloc)
-}
-
-fn network_row(alloc: Global, network: &Network) -> RouteRow
-    ensures { result ≡ network_row network.now }
-{
-    RouteRow {
+    Ok(RouteRow {
         flag: Flag::Best,
         prefix: network.prefix,
         who: None,
-        attrs: network_attrs(alloc, network.prefix.family),
-    }
+        attrs: network_with_set(alloc, conf, network)?,
+    })
 }

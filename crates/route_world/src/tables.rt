@@ -22,8 +22,8 @@ use net_base::{Addr, Items, NoMemory, Prefix, PrefixSet};
 use std::alloc::Global;
 use std::sync::ledger::Ledger;
 
-/// Routes by prefix.
-pub type RouteList = Items<(Prefix, Attrs)>;
+/// Routes by prefix, as a session is told them.
+pub type OutList = Items<(Prefix, Attrs)>;
 
 /// Routes of a kernel table: prefixes with their next hops, by prefix.
 pub type FibList = Items<(Prefix, Addr)>;
@@ -148,7 +148,7 @@ pub fn out<M: Members, L: Ledger>(
     sets: &M,
     session: &Session,
     steps: &mut Steps<L>,
-) -> Result<RouteList, NoMemory>
+) -> Result<OutList, NoMemory>
     requires same_sets { SameSets (M.conf_of sets.now) world.now.conf }
     requires named { AreNamed (M.conf_of sets.now) world.now.conf.rules }
     requires few { length (world.now.sessions) ≤ 256 }
