@@ -1,0 +1,4 @@
+mod Moved
+mod Replaced
+mod Chosen
+mod Taken
