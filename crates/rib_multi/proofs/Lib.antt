@@ -2,3 +2,4 @@ mod Moved
 mod Replaced
 mod Chosen
 mod Taken
+mod Beside

@@ -33,11 +33,11 @@ still_of old new (one ∷ rest) stays enough of =
     let used : 0 < uses_at new one.number = omega (arith, enough one.number, times-cons one.number one rest, times_itself one.number one refl) in
     (stays one.number one.attrs of.0 used, still_of old new rest stays (λ number. omega (arith, enough number, times-cons number one rest)) of.1)
 
-all_front : (P : Numbered → Type 0) (ones others : List Numbered) → AllByRecursion P (ones ++ others) → AllByRecursion P ones
+pub all_front : (P : Numbered → Type 0) (ones others : List Numbered) → AllByRecursion P (ones ++ others) → AllByRecursion P ones
 all_front P [] others all = tt
 all_front P (one ∷ rest) others all = (all.0, all_front P rest others all.1)
 
-all_back : (P : Numbered → Type 0) (ones others : List Numbered) → AllByRecursion P (ones ++ others) → AllByRecursion P others
+pub all_back : (P : Numbered → Type 0) (ones others : List Numbered) → AllByRecursion P (ones ++ others) → AllByRecursion P others
 all_back P [] others all = all
 all_back P (one ∷ rest) others all = all_back P rest others all.1
 
@@ -127,6 +127,41 @@ moves_then old mid new before after given first second = record {
   uses = λ number. omega (arith, first.uses number, second.uses number, times-append number before given);
   stays = λ number attrs is used. second.stays number attrs (first.stays number attrs is (omega (arith, used, second.uses number))) used;
 }
+
+-- the first ones of what is left are given back
+pub moves_front : (start old new : Table) (all ones rest : List Numbered) → Moves start old all (ones ++ rest) → Moves old new ones [] → Moves start new all rest
+moves_front start old new all ones rest moves given = record {
+  uses = λ number. omega (arith, moves.uses number, given.uses number, times-append number ones rest);
+  stays = λ number attrs is used. given.stays number attrs (moves.stays number attrs is (omega (arith, used, given.uses number))) used;
+}
+
+-- one step after another, where the second hands nothing out
+pub moves_on : (start old new : Table) (all left fewer : List Numbered) → Moves start old all left → Moves old new left fewer → ((number : ℕ) → times number fewer ≤ times number left) → Moves start new all fewer
+moves_on start old new all left fewer first second less = record {
+  uses = λ number. omega (arith, first.uses number, second.uses number);
+  stays = λ number attrs is used. second.stays number attrs (first.stays number attrs is (omega (arith, used, second.uses number, less number))) used;
+}
+
+-- what one part kept is replaced, and all else stays beside it
+pub moves_beside : (old new : Table) (before after was now handed : List Numbered) → Moves old new was handed → ((number : ℕ) → times number after + times number was ≡ times number before + times number now)
+    → Moves old new (before ++ now) (after ++ handed)
+moves_beside old new before after was now handed moves counts = record {
+  uses = λ number. omega (arith, moves.uses number, counts number, times-append number before now, times-append number after handed);
+  stays = moves.stays;
+}
+
+-- a part goes
+pub moves_gone : (old new : Table) (before after gone : List Numbered) → Moves old new gone [] → ((number : ℕ) → times number after + times number gone ≡ times number before) → Moves old new before after
+moves_gone old new before after gone moves counts = record {
+  uses = λ number. omega (arith, moves.uses number, counts number);
+  stays = moves.stays;
+}
+
+-- what came from the table before comes from it behind a step
+pub came_on : (old new : Table) (before after : List Numbered) → CameFrom old before → Moves old new before after → AllByRecursion (IsOf old) after → CameFrom new after
+came_on old new before after came moves of =
+    let enough : (number : ℕ) → times number after ≤ uses_at new number = λ number. omega (arith, came.uses number, moves.uses number) in
+    record { each = still_of old new after moves.stays enough of; uses = enough }
 
 -- some are handed out, and then others are given back
 pub hands_then : (old mid new : Table) (handed given : List Numbered) → Hands old mid handed → Moves mid new given [] → Moves old new given handed

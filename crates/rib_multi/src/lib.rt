@@ -4,6 +4,9 @@
 
 mod change;
 mod rib;
+mod ribs;
 mod row;
+mod shown;
 
 pub use change::{CandidateList, Change};
+pub use ribs::{MOST_RIBS, RibMulti};

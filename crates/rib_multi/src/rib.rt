@@ -5,16 +5,21 @@ ghost use Rattle.net_base.specs.Order.{prefix_cmp};
 ghost use Rattle.net_base.specs.PrefixSet.{is_in, IsLeast, IsLeastOf};
 ghost use Rattle.sweep_jobs.specs.Marks.{is_marked};
 ghost use Rattle.decision.specs.Best.{best_of};
-ghost use Rattle.attr_intern.specs.Table.{times, CameFrom};
+ghost use Rattle.attr_intern.specs.Table.{Table, times, IsOf, CameFrom};
 ghost use Rattle.rib_multi.specs.Rows.{row_in, candidates_of, best_of_row, row_for, SetsRow, IsEmptyRib};
-ghost use Rattle.rib_multi.specs.Uses.{refs_in, refs_of_rib, refs_of_change, Moves};
+ghost use Rattle.rib_multi.specs.Shown.{routes_in};
+ghost use Rattle.std.specs.List.{AllByRecursion, flat_map};
+ghost use Rattle.std.specs.Map.{values_of};
+ghost use Rattle.rib_multi.specs.Uses.{refs_in, refs_of_row, refs_of_rib, refs_of_change, Moves};
 
 use crate::change::{change_of, give_all, give_change};
 use crate::row::Row;
+use crate::shown::show_row;
 use crate::{CandidateList, Change};
 use attr_intern::AttrTable;
+use attr_model::RouteList;
 use decision::{Candidate, MOST_CANDIDATES};
-use net_base::{NoMemory, Prefix, PrefixSet};
+use net_base::{Items, NoMemory, Prefix, PrefixSet};
 use std::alloc::Global;
 use std::collections::BTreeMap;
 use std::marker::Model;
@@ -68,6 +73,17 @@ impl Rib {
         ensures { result ≡ is_some (row_in self.now prefix) }
     {
         self.rows.contains_key(&prefix)
+    }
+
+    /// What is kept as it is shown.
+    pub(crate) fn routes(&self, alloc: Global) -> Result<RouteList, NoMemory>
+        ensures { IfOk result (λ routes. routes ≡ routes_in self.now) }
+    {
+        let mut routes = Items::new(alloc);
+        for (prefix, row) in self.rows.iter() {
+            show_row(&mut routes, *prefix, row)?;
+        }
+        Ok(routes)
     }
 
     /// Marks one prefix.
@@ -125,6 +141,8 @@ impl Rib {
         ensures refs { OnOk result ((number : ℕ) →
             times number (refs_of_rib self.new) + times number (refs_in (candidates_of (row_in self.old prefix)))
             ≡ times number (refs_of_rib self.old) + times number (refs_in candidates)) }
+        ensures each { OnOk result ((other : Table) → AllByRecursion (IsOf other) (refs_of_rib self.old) →
+            AllByRecursion (IsOf other) (refs_in candidates) → AllByRecursion (IsOf other) (refs_of_rib self.new)) }
         ensures uses { IfOk result (λ change. Moves table.old table.new (refs_in (candidates_of (row_in self.old prefix))) (refs_of_change change)) }
         ensures err { OnErr result (self.new ≡ self.old) }
         ensures err_uses { OnErr result (Moves table.old table.new [] []) }
@@ -144,6 +162,15 @@ impl Rib {
         }
     }
 
+    /// Gives the uses of all that is kept back.
+    pub(crate) fn give_back(self, table: &mut AttrTable)
+        requires { CameFrom table.old (refs_of_rib self) }
+        ensures { Moves table.old table.new (refs_of_rib self) [] }
+    {
+        let Rib { rows, marks: _ } = self;
+        give_rows(table, rows);
+    }
+
     /// Keeps a row of a prefix, or none where it has no candidates, and hands out the row that there was.
     fn put(&mut self, prefix: Prefix, row: Row) -> Result<Option<Row>, NoMemory>
         ensures row { OnOk result (SetsRow self.old self.new prefix (row_for row.always row.candidates)) }
@@ -152,6 +179,8 @@ impl Rib {
         ensures refs { OnOk result ((number : ℕ) →
             times number (refs_of_rib self.new) + times number (refs_in (candidates_of (row_in self.old prefix)))
             ≡ times number (refs_of_rib self.old) + times number (refs_in row.candidates)) }
+        ensures each { OnOk result ((other : Table) → AllByRecursion (IsOf other) (refs_of_rib self.old) →
+            AllByRecursion (IsOf other) (refs_in row.candidates) → AllByRecursion (IsOf other) (refs_of_rib self.new)) }
         ensures err { OnErr result (self.new ≡ self.old) }
     {
         if row.is_empty() {
@@ -170,6 +199,16 @@ impl Rib {
         ensures rows { self.new.rows ≡ self.old.rows }
     {
         self.marks.next(known);
+    }
+}
+
+/// Gives the uses of rows back.
+fn give_rows(table: &mut AttrTable, mut rows: BTreeMap<Prefix, Row>)
+    requires { CameFrom table.old (flat_map refs_of_row (values_of rows.entries)) }
+    ensures { Moves table.old table.new (flat_map refs_of_row (values_of rows.entries)) [] }
+{
+    while let Some((_, row)) = rows.pop_first() {
+        give_all(table, row.into_candidates());
     }
 }
 

@@ -2,9 +2,13 @@ use Rattle.std.proofs.Common.{◌≡◌, [], length, None, sym, ap, ◌∙◌, s
 use Rattle.std.proofs.lemmas.Bool.{eqb-true, eqb-false}
 use Rattle.net_base.specs.contracts.prefix.PrefixOrd.TheImpl.{cmp-value as derived}
 use Rattle.net_base.proofs.Order.{derived_prefix_cmp}
+use Rattle.std.specs.List.{AllByRecursion}
+use Rattle.std.specs.BTreeMap.{is_at}
+use Rattle.attr_intern.specs.Table.{IsOf}
+use Rattle.rib_multi.specs.Uses.{refs_of_rib}
 use Rattle.decision.specs.declared.candidate.Candidate.{Candidate}
 use Rattle.rib_multi.specs.Rows.{RibState, row_for, row_in, SetsRow}
-use Rattle.rib_multi.proofs.Replaced.{row_is, sets_row, nothing, row_of_none, row_of_some, refs_put, refs_gone, Replaces}
+use Rattle.rib_multi.proofs.Replaced.{each_put, each_gone, row_is, sets_row, nothing, row_of_none, row_of_some, refs_put, refs_gone, Replaces}
 use Rattle.rib_multi.proofs.rib.Rib.put.Goals as goal
 
 pub returns-then-is_empty-clause-row : goal.returns-then-is_empty-clause-row
@@ -45,3 +49,15 @@ returns-clause-refs c number =
     let new : RibState = record { rows = c.insert.new.self.entries; marks = c.self.inside.marks } in
     subst (λ (rib : RibState). Replaces number rib new (row_in rib c.args.prefix) c.args.row.candidates) c.self.view_is
     (refs_put derived.it derived_prefix_cmp old new c.args.prefix c.args.row c.in_ok-insert.ensures.was_ordered c.in_ok-insert.ensures.entries number)
+
+pub returns-then-is_empty-clause-each : goal.returns-then-is_empty-clause-each
+returns-then-is_empty-clause-each c other before now =
+    let old : RibState = record { rows = c.self.inside.rows.entries; marks = c.self.inside.marks } in
+    let new : RibState = record { rows = c.remove.new.self.entries; marks = c.self.inside.marks } in
+    each_gone (is_at (derived.it c.args.prefix)) old new c.remove.ensures.entries (IsOf other) (subst (λ (rib : RibState). AllByRecursion (IsOf other) (refs_of_rib rib)) (sym c.self.view_is) before)
+
+pub returns-clause-each : goal.returns-clause-each
+returns-clause-each c other before now =
+    let old : RibState = record { rows = c.self.inside.rows.entries; marks = c.self.inside.marks } in
+    let new : RibState = record { rows = c.insert.new.self.entries; marks = c.self.inside.marks } in
+    each_put derived.it old new c.args.prefix c.args.row c.in_ok-insert.ensures.entries (IsOf other) (subst (λ (rib : RibState). AllByRecursion (IsOf other) (refs_of_rib rib)) (sym c.self.view_is) before) now

@@ -1,9 +1,9 @@
 use Rattle.std.proofs.Common.{◌++◌, Some, sym, ap, ◌∙◌, subst}
 use Rattle.std.specs.List.{AllByRecursion}
 use Rattle.decision.specs.Best.{best_of}
-use Rattle.attr_intern.specs.Table.{CameFrom}
+use Rattle.attr_intern.specs.Table.{CameFrom, IsOf}
 use Rattle.rib_multi.specs.Rows.{Kept, RibState, row_in, candidates_of}
-use Rattle.rib_multi.specs.Uses.{refs_in}
+use Rattle.rib_multi.specs.Uses.{refs_in, refs_of_rib}
 use Rattle.rib_multi.proofs.Chosen.{best_is_of}
 use Rattle.rib_multi.proofs.Moved.{came_front, came_back, came_still}
 use Rattle.rib_multi.proofs.Replaced.{Replaces}
@@ -31,3 +31,8 @@ returns-in-Ok-clause-refs c number =
     let was = row_in c.args.self.now c.args.prefix in
     subst (λ rows. Replaces number c.args.self.now (record { rows = rows; marks = c.take_mark.new.self.marks }) was c.args.candidates) (sym c.take_mark.ensures.rows)
     (subst (λ (row : Kept). Replaces number c.args.self.now (record { rows = c.put.new.self.rows; marks = c.take_mark.new.self.marks }) was row.candidates) c.new-row.ensures (c.in-Ok.ensures.refs number))
+
+pub returns-in-Ok-clause-each : goal.returns-in-Ok-clause-each
+returns-in-Ok-clause-each c other before now =
+    subst (λ rows. AllByRecursion (IsOf other) (refs_of_rib (record { rows = rows; marks = c.take_mark.new.self.marks }))) (sym c.take_mark.ensures.rows)
+    (c.in-Ok.ensures.each other before (subst (λ (row : Kept). AllByRecursion (IsOf other) (refs_in row.candidates)) (sym c.new-row.ensures) now))
