@@ -30,6 +30,12 @@ refs_beside number ribs at rib within =
     let before = times-flat_map number refs_of_rib ribs in
     omega (arith, sums, after, before)
 
+-- a RIB with the same rows has the same references
+pub refs_same : (ribs : Ribs) (at : ℕ) (rib : RibState) → at < length ribs → rib.rows ≡ (rib_at ribs at).rows → refs_of (slice_set ribs at rib) ≡ refs_of ribs
+refs_same [] at rib within same = refl
+refs_same (first ∷ rest) zero rib within same = ap (λ (rows : List (Prefix × Kept)). flat_map refs_of_row (values_of rows) ++ refs_of rest) same
+refs_same (first ∷ rest) (suc at) rib within same = ap (λ (refs : List Numbered). refs_of_rib first ++ refs) (refs_same rest at rib (omega (arith, within)) same)
+
 module _ (P : Numbered → Type 0) where
   pub each_set : (ribs : Ribs) (at : ℕ) (rib : RibState) → AllByRecursion P (refs_of ribs) → AllByRecursion P (refs_of_rib rib) → AllByRecursion P (refs_of (slice_set ribs at rib))
   each_set [] at rib before now = before
@@ -146,3 +152,7 @@ pub empty_pushed : (ribs : Ribs) (rib : RibState) → IsEmptyRib rib → ((at : 
 empty_pushed [] rib empty all at = nothing_at at rib empty (all at)
 empty_pushed (first ∷ rest) rib empty all zero = all zero
 empty_pushed (first ∷ rest) rib empty all (suc at) = empty_pushed rest rib empty (λ n. all (suc n)) at
+
+pub refs_pushed : (ribs : Ribs) (rib : RibState) → IsEmptyRib rib → refs_of (ribs ++ rib ∷ []) ≡ refs_of ribs
+refs_pushed [] rib empty = ap (λ (refs : List Numbered). refs ++ []) (no_refs rib empty)
+refs_pushed (first ∷ rest) rib empty = ap (λ (refs : List Numbered). refs_of_rib first ++ refs) (refs_pushed rest rib empty)

@@ -77,10 +77,7 @@ fn again(table: &mut AttrTable, one: &Candidate) -> Result<Candidate, NoMemory>
 }
 
 /// A copy of a candidate that may be there.
-fn again_if(
-    table: &mut AttrTable,
-    one: Option<&Candidate>,
-) -> Result<Option<Candidate>, NoMemory>
+fn again_if(table: &mut AttrTable, one: Option<&Candidate>) -> Result<Option<Candidate>, NoMemory>
     requires { IfSome one (λ one. IsOf table.old one.now.attrs) }
     ensures same { IfOk result (λ other. other ≡ option_copied one.entry) }
     ensures hands { IfOk result (λ other. Hands table.old table.new (refs_of_one other)) }

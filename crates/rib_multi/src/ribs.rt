@@ -45,7 +45,8 @@ impl Model for RibMulti {
 impl RibMulti {
     /// RIBs that keep nothing, in which nothing is marked.
     pub fn new(alloc: Global) -> Result<Self, NoMemory>
-        ensures { IfOk result (λ ribs. (number : ℕ) → IsEmptyRib (rib_at ribs number)) }
+        ensures empty { IfOk result (λ ribs. (number : ℕ) → IsEmptyRib (rib_at ribs number)) }
+        ensures refs { IfOk result (λ ribs. refs_of ribs ≡ []) }
     {
         let mut ribs = Vec::new(alloc);
         while ribs.len() < usize::from(MOST_RIBS) {
@@ -94,6 +95,7 @@ impl RibMulti {
         ensures marks { OnOk result ((known : List Prefix) (q : Prefix) →
             is_marked_at known self.new rib q ≡ (eq_by_cmp prefix_cmp q prefix || is_marked_at known self.old rib q)) }
         ensures rows { (rib_at self.new rib).rows ≡ (rib_at self.old rib).rows }
+        ensures refs { refs_of self.new ≡ refs_of self.old }
         ensures others { KeepsOthers self.old self.new rib }
         ensures err { OnErr result (self.new ≡ self.old) }
     {
@@ -105,6 +107,7 @@ impl RibMulti {
         requires { rib < MOST_RIBS }
         ensures marks { (known : List Prefix) (q : Prefix) → is_marked_at known self.new rib q ≡ is_in known q }
         ensures rows { (rib_at self.new rib).rows ≡ (rib_at self.old rib).rows }
+        ensures refs { refs_of self.new ≡ refs_of self.old }
         ensures others { KeepsOthers self.old self.new rib }
     {
         self.ribs[usize::from(rib)].start();

@@ -11,7 +11,6 @@ use Rattle.rib_multi.specs.Uses.{refs_in, refs_of_row, Moves}
 use Rattle.rib_multi.proofs.Moved.{came_front, came_behind, moves_front}
 use Rattle.rib_multi.proofs.rib.give_rows.Goals as goal
 
-
 first_is : (c : goal.After-give_all) → flat_map refs_of_row (values_of c.loop-row.rows.entries) ≡ refs_in c.into_candidates.result ++ flat_map refs_of_row (values_of c.pop_first.new.self.entries)
 first_is c =
     let found : c.loop-row.rows.entries ≡ (c.in-Some.field-0-0, c.in-Some.row) ∷ c.pop_first.new.self.entries = subst (λ (o : Option (Prefix × Kept)). IfSome o (λ p. c.loop-row.rows.entries ≡ p ∷ c.pop_first.new.self.entries)) c.in-Some.is c.pop_first.ensures.removal in
