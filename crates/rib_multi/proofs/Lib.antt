@@ -1,0 +1,5 @@
+mod Moved
+mod Replaced
+mod Chosen
+mod Taken
+mod Beside
