@@ -27,7 +27,7 @@ pub all-back : (P : Numbered → Type 0) (xs ys : List Numbered) → AllByRecurs
 all-back P [] ys a = a
 all-back P (x ∷ xs) ys a = all-back P xs ys a.1
 
-some_none : {X : Type 0} (x : X) → Some x ≡ None → ⊥
+pub some_none : {X : Type 0} (x : X) → Some x ≡ None → ⊥
 some_none x e = cc
 
 some_some : {X : Type 0} (x y : X) → Some x ≡ Some y → x ≡ y

@@ -1,2 +1,7 @@
 mod Kept
 mod Puts
+mod Keeps
+mod Uses
+mod Settling
+mod Messages
+mod Sessions

@@ -21,8 +21,10 @@ use Rattle.adj_rib_out.specs.Out.{Out, told_at, is_again}
 abbrev pub has_news : Out → Look → Bool
 has_news out look = is_again out look.prefix || not (same_number look.wanted (told_at out look.prefix))
 
--- Prefixes of one family that are announced with the same attributes, or withdrawn where none are wanted.
+-- Prefixes of one family that are announced with the same attributes, or withdrawn where none are wanted, by the encoding of their
+-- session.
 pub record Message : Type 0 where
+  pub enc : Encoding
   pub family : Family
   pub wanted : Option Numbered
   pub prefixes : List Prefix
@@ -38,8 +40,8 @@ abbrev pub told_size : Encoding → Family → Option Numbered → ℕ → ℕ
 told_size enc family None n = withdrawn_size family n
 told_size enc family (Some one) n = update_size enc one.attrs n
 
-abbrev pub message_size : Encoding → Message → ℕ
-message_size enc message = told_size enc message.family message.wanted (length (prefixes_bytes message.prefixes))
+abbrev pub message_size : Message → ℕ
+message_size message = told_size message.enc message.family message.wanted (length (prefixes_bytes message.prefixes))
 
 -- ---- the rule
 
@@ -47,25 +49,25 @@ abbrev pub with_prefix : Prefix → Message → Message
 with_prefix prefix message = record message { prefixes = message.prefixes ++ prefix ∷ [] }
 
 -- A look joins where kind, family and attributes are those of the message, and the message still fits with it.
-abbrev pub joins : Encoding → Message → Look → Bool
-joins enc message look =
+abbrev pub joins : Message → Look → Bool
+joins message look =
     same_family message.family look.prefix.family && same_number message.wanted look.wanted
-    && nat_le (message_size enc (with_prefix look.prefix message)) 4096
+    && nat_le (message_size (with_prefix look.prefix message)) 4096
 
-abbrev pub joined : Encoding → Option Message → Look → Bool
-joined enc None look = false
-joined enc (Some message) look = joins enc message look
+abbrev pub joined : Option Message → Look → Bool
+joined None look = false
+joined (Some message) look = joins message look
 
 -- The first look with news fixes the kind, the family and the attributes.
-abbrev pub begun : Look → Message
-begun look = record { family = look.prefix.family; wanted = look.wanted; prefixes = [] }
+abbrev pub begun : Encoding → Look → Message
+begun enc look = record { enc = enc; family = look.prefix.family; wanted = look.wanted; prefixes = [] }
 
 -- Each look with news that joins adds its prefix.
-abbrev pub with_look : Encoding → Out → Option Message → Look → Option Message
-with_look enc out message look = if has_news out look && joined enc message look then option_map (with_prefix look.prefix) message else message
+abbrev pub with_look : Out → Option Message → Look → Option Message
+with_look out message look = if has_news out look && joined message look then option_map (with_prefix look.prefix) message else message
 
 abbrev pub message_of : Encoding → Out → List Look → Option Message
-message_of enc out looks = fold (with_look enc out) (option_map begun (find (has_news out) looks)) looks
+message_of enc out looks = fold (with_look out) (option_map (begun enc) (find (has_news out) looks)) looks
 
 -- ---- what the rule gives
 
@@ -97,4 +99,4 @@ IsInOrder (look ∷ rest) = AllByRecursion (λ other. is_lt (prefix_cmp look.pre
 
 -- each is small enough to be told alone
 abbrev pub FitsAlone : Encoding → Look → Type 0
-FitsAlone enc look = message_size enc (with_prefix look.prefix (begun look)) ≤ 4096
+FitsAlone enc look = message_size (with_prefix look.prefix (begun enc look)) ≤ 4096

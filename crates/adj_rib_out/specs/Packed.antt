@@ -1,4 +1,4 @@
--- A message that looks join, with the encoding of its session and the number of prefixes for which there is room.
+-- A message that looks join, and for how many prefixes there is room.
 use Rattle.std.specs.Prelude.{ℕ, length, Option, None, Some}
 use Rattle.bgp_wire.specs.declared.open.Encoding.{Encoding}
 use Rattle.attr_model.specs.Numbered.{Numbered}
@@ -6,7 +6,6 @@ use Rattle.attr_codec.specs.Written.{attrs_bytes}
 use Rattle.adj_rib_out.specs.Message.{Message}
 
 pub record Packed : Type 0 where
-  pub enc : Encoding
   pub message : Message
   pub room : ℕ
 

@@ -2,14 +2,16 @@
 //! section 3.2).
 #![tactic(auto)]
 
+mod building;
+mod give;
 mod look;
 mod packing;
 mod rows;
 mod session;
-//mod table;
+mod table;
 
 pub use look::{Built, Look, LookList};
-//pub use table::AdjRibOut;
+pub use table::AdjRibOut;
 
 //cfg
 //mod tests;

@@ -1,10 +1,9 @@
-ghost use Rattle.std.specs.Prelude.{◌≡◌, ℕ, ◌+◌, ◌-◌, ◌<◌, ◌++◌, ◌∷◌, [], Option, Some, None, if◌then◌else◌, option_map, length};
-ghost use Rattle.attr_model.specs.Numbered.{Numbered};
+ghost use Rattle.std.specs.Prelude.{◌≡◌, ◌+◌, ◌-◌, ◌<◌, [], Some, if◌then◌else◌, vec_len, vec_capacity};
 ghost use Rattle.attr_codec.specs.Size.{capped};
-ghost use Rattle.adj_rib_out.specs.Message.{Message, with_prefix, joins, joined, message_size, told_size, withdrawn_size, built_of};
-ghost use Rattle.adj_rib_out.specs.Packed.{Packed, packed, message_in};
+ghost use Rattle.adj_rib_out.specs.Message.{with_prefix, joins, message_size, told_size, withdrawn_size, built_of};
 
 use crate::look::{Built, Look};
+use crate::rows::is_same_wanted;
 use attr_codec::{announced_size, attrs_size, prefixes_size};
 use attr_model::AttrRef;
 use bgp_wire::{Encoding, LONGEST};
@@ -32,7 +31,7 @@ impl Model for Packing {
 
     ghost Value = { Packed };
 
-    ghost view = { λ s. record { enc = s.enc; message = record { family = s.family; wanted = s.wanted; prefixes = s.prefixes.items }; room = vec_capacity s.prefixes - vec_len s.prefixes } };
+    ghost view = { λ s. record { message = record { enc = s.enc; family = s.family; wanted = s.wanted; prefixes = s.prefixes.items }; room = vec_capacity s.prefixes - vec_len s.prefixes } };
 
     ghost invariant = { λ s. (s.attributes ≡ capped (attributes_of s.enc s.wanted)) × (s.nlri ≡ capped (length (prefixes_bytes s.prefixes.items))) };
 }
@@ -46,8 +45,7 @@ impl Packing {
         prefixes: Vec<Prefix>,
     ) -> Self
         requires { prefixes.items ≡ [] }
-        ensures enc { result.enc ≡ enc }
-        ensures message { result.message ≡ record { family = family; wanted = wanted; prefixes = [] } }
+        ensures message { result.message ≡ record { enc = enc; family = family; wanted = wanted; prefixes = [] } }
         ensures room { result.room ≡ vec_capacity prefixes - vec_len prefixes }
     {
         let attributes = match &wanted {
@@ -67,12 +65,11 @@ impl Packing {
     /// Adds the prefix of a look that joins. The answer is whether it does.
     pub(crate) fn take(&mut self, look: &Look) -> bool
         requires { 0 < self.old.room }
-        ensures value { result ≡ joins self.old.enc self.old.message look.now }
-        ensures enc { self.new.enc ≡ self.old.enc }
+        ensures value { result ≡ joins self.old.message look.now }
         ensures message { self.new.message ≡ (if result then with_prefix look.now.prefix self.old.message else self.old.message) }
         ensures room { self.old.room ≡ (if result then self.new.room + 1 else self.new.room) }
     {
-        if self.family != look.prefix.family || self.wanted != look.wanted {
+        if self.family != look.prefix.family || !is_same_wanted(&self.wanted, &look.wanted) {
             return false;
         }
         let nlri = self.nlri.saturating_add(prefixes_size(&[look.prefix]));
@@ -86,14 +83,14 @@ impl Packing {
 
     /// How many bytes the message has.
     pub(crate) fn size(&self) -> usize
-        ensures { result ≡ capped (message_size self.now.enc self.now.message) }
+        ensures { result ≡ capped (message_size self.now.message) }
     {
         self.size_with(self.nlri)
     }
 
     /// How many bytes the message has with prefixes of `nlri` bytes.
     fn size_with(&self, nlri: usize) -> usize
-        ensures { result ≡ capped (told_size self.now.enc self.now.message.family self.now.message.wanted nlri) }
+        ensures { result ≡ capped (told_size self.now.message.enc self.now.message.family self.now.message.wanted nlri) }
     {
         match &self.wanted {
             None => withdrawn_size(self.family, nlri),

@@ -1,10 +1,13 @@
 ghost use Rattle.std.specs.Prelude.{◌≡◌, ℕ, ◌+◌, true, false, [], cond, not, ◌&&◌, ◌||◌, option_copied, OnOk, OnErr, IsTrue};
 ghost use Rattle.std.specs.List.{AllByRecursion};
 ghost use Rattle.net_base.specs.declared.prefix.Prefix.{Prefix};
-ghost use Rattle.attr_intern.specs.Table.{Table, times, IsOf};
+ghost use Rattle.attr_intern.specs.Table.{Table, times, IsOf, CameFrom};
+ghost use Rattle.adj_rib_out.specs.Uses.{Moves};
 ghost use Rattle.adj_rib_out.specs.Rows.{is_same, has_row, told_in, again_in, kept_in, one_or_none};
 ghost use Rattle.adj_rib_out.specs.Same.{same_number};
 
+use crate::give::give_back;
+use attr_intern::AttrTable;
 use attr_model::AttrRef;
 use net_base::{NoMemory, Prefix};
 use std::alloc::Global;
@@ -115,6 +118,7 @@ impl Rows {
             ≡ times number (kept_in self.old) + times number (one_or_none wanted) }
         ensures each { (table : Table) → AllByRecursion (IsOf table) (kept_in self.old) → AllByRecursion (IsOf table) (one_or_none wanted)
             → AllByRecursion (IsOf table) (kept_in self.new) }
+        ensures gone { (table : Table) → AllByRecursion (IsOf table) (kept_in self.old) → AllByRecursion (IsOf table) (one_or_none result) }
     {
         let Some(row) = self.rows.get_mut(&prefix) else {
             return wanted;
@@ -132,6 +136,17 @@ impl Rows {
     {
         if self.says_nothing(prefix) {
             self.rows.remove(&prefix);
+        }
+    }
+
+    /// Gives back what was told of all prefixes.
+    pub(crate) fn end(self, table: &mut AttrTable)
+        requires { CameFrom table.old (kept_in self) }
+        ensures { Moves table.old table.new (kept_in self) [] }
+    {
+        let Rows { rows } = self;
+        for (_, row) in rows {
+            give_back(table, row.told);
         }
     }
 

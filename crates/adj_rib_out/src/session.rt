@@ -1,21 +1,19 @@
-ghost use Rattle.std.specs.Prelude.{◌≡◌, ℕ, ◌+◌, ◌<◌, ◌≤◌, ◌&&◌, ◌||◌, not, true, false, [], ◌∷◌, ◌++◌, length, drop, find, option_copied, Option, Some, None, OnOk, OnErr, IfOk, IfErr, IfSome, IsTrue, if◌then◌else◌};
+ghost use Rattle.std.specs.Prelude.{◌≡◌, ℕ, ◌+◌, ◌<◌, ◌≤◌, ◌&&◌, ◌||◌, not, true, false, [], ◌∷◌, ◌++◌, length, drop, option_copied, OnOk, OnErr, IfOk, IsTrue, if◌then◌else◌};
 ghost use Rattle.std.specs.List.{AllByRecursion};
+ghost use Rattle.std.specs.Ordering.{is_lt};
 ghost use Rattle.net_base.specs.declared.prefix.Prefix.{Prefix};
-ghost use Rattle.net_base.specs.PrefixSet.{is_in, IsLeast};
-ghost use Rattle.attr_intern.specs.Table.{Table, times, IsOf, CameFrom, Hands};
+ghost use Rattle.net_base.specs.Order.{prefix_cmp};
+ghost use Rattle.net_base.specs.PrefixSet.{IsLeast};
+ghost use Rattle.attr_intern.specs.Table.{Table, times, IsOf, CameFrom};
+ghost use Rattle.adj_rib_out.specs.Same.{same_number};
 ghost use Rattle.adj_rib_out.specs.Rows.{is_same, one_or_none};
-ghost use Rattle.adj_rib_out.specs.Out.{Out, nothing, told_at, is_queued, is_again, kept_of};
-ghost use Rattle.adj_rib_out.specs.Message.{Message, has_news, begun, with_look, joined, message_of, built_of, IsInOrder, FitsAlone};
-ghost use Rattle.adj_rib_out.specs.Packed.{Packed, message_in};
-ghost use Rattle.adj_rib_out.specs.Uses.{Trades, wanted_in, used_by};
-ghost use Rattle.adj_rib_out.specs.Steps.{IsSame, Queues, Tells};
+ghost use Rattle.adj_rib_out.specs.Out.{nothing, told_at, is_queued, is_again, kept_of};
+ghost use Rattle.adj_rib_out.specs.Uses.{Moves};
+ghost use Rattle.adj_rib_out.specs.Steps.{IsSame, Queues};
 
-use crate::look::{Built, Look, LookList};
-use crate::packing::Packing;
 use crate::rows::Rows;
 use attr_intern::AttrTable;
 use attr_model::AttrRef;
-use bgp_wire::Encoding;
 use circular_buffer::HeapCircularBuffer;
 use net_base::{NoMemory, Prefix, PrefixSet};
 use std::alloc::Global;
@@ -78,6 +76,20 @@ impl SessionOut {
         self.queue.first()
     }
 
+    /// The next queued prefix above `after`.
+    pub(crate) fn queued_after(&self, after: Prefix) -> Option<Prefix>
+        ensures { IsLeast (λ p. is_queued self.now p && is_lt (prefix_cmp after p)) result }
+    {
+        self.queue.first_after(after)
+    }
+
+    /// Whether the prefix is queued.
+    pub(crate) fn is_queued(&self, prefix: Prefix) -> bool
+        ensures { result ≡ is_queued self.now prefix }
+    {
+        self.queue.has(prefix)
+    }
+
     /// How many messages are in flight.
     pub(crate) fn in_flight(&self) -> usize
         ensures value { result ≡ length self.now.flight }
@@ -90,6 +102,7 @@ impl SessionOut {
     pub(crate) fn queue(&mut self, prefix: Prefix, again: bool) -> Result<(), NoMemory>
         ensures ok { OnOk result (Queues prefix again self.old self.new) }
         ensures err { OnErr result (IsSame self.old self.new) }
+        ensures kept { kept_of self.new ≡ kept_of self.old }
     {
         self.rows.keep(prefix)?;
         self.queue.add(prefix)?;
@@ -108,15 +121,15 @@ impl SessionOut {
         self.flight.truncate_front(left);
     }
 
-    /// Whether a look has news.
-    fn has_news(&self, look: &Look) -> bool
-        ensures { result ≡ has_news self.now look.now }
+    /// Whether what is wanted of a prefix differs from what was told, or is to be told again.
+    pub(crate) fn has_news(&self, prefix: Prefix, wanted: &Option<AttrRef>) -> bool
+        ensures { result ≡ (is_again self.now prefix || not (same_number wanted.now (told_at self.now prefix))) }
     {
-        self.rows.has_news(look.prefix, &look.wanted)
+        self.rows.has_news(prefix, wanted)
     }
 
     /// Takes a prefix that isn't to be told again out of the queue.
-    fn pass(&mut self, prefix: Prefix)
+    pub(crate) fn pass(&mut self, prefix: Prefix)
         requires { is_again self.old prefix ≡ false }
         ensures told { (p : Prefix) → told_at self.new p ≡ told_at self.old p }
         ensures queued { (p : Prefix) → is_queued self.new p ≡ (not (is_same p prefix) && is_queued self.old p) }
@@ -129,7 +142,7 @@ impl SessionOut {
     }
 
     /// Notes what is told of a queued prefix, which leaves the queue, and hands out what was told before.
-    fn tell(&mut self, prefix: Prefix, wanted: Option<AttrRef>) -> Option<AttrRef>
+    pub(crate) fn tell(&mut self, prefix: Prefix, wanted: Option<AttrRef>) -> Option<AttrRef>
         requires { is_queued self.old prefix ≡ true }
         ensures value { result ≡ told_at self.old prefix }
         ensures told { (p : Prefix) → told_at self.new p ≡ (if is_same p prefix then wanted else told_at self.old p) }
@@ -140,10 +153,28 @@ impl SessionOut {
             ≡ times number (kept_of self.old) + times number (one_or_none wanted) }
         ensures each { (table : Table) → AllByRecursion (IsOf table) (kept_of self.old) → AllByRecursion (IsOf table) (one_or_none wanted)
             → AllByRecursion (IsOf table) (kept_of self.new) }
+        ensures gone { (table : Table) → AllByRecursion (IsOf table) (kept_of self.old) → AllByRecursion (IsOf table) (one_or_none result) }
     {
         let old = self.rows.replace(prefix, wanted);
         self.queue.remove(prefix);
         self.rows.tidy(prefix);
         old
+    }
+
+    /// Puts a message of so many bytes in flight, behind the others.
+    pub(crate) fn send(&mut self, size: usize)
+        requires { length self.old.flight < 16 }
+        ensures { self.new ≡ record self.old { flight = self.old.flight ++ size ∷ [] } }
+    {
+        let _ = self.flight.try_push_back(size);
+    }
+
+    /// Ends the session: what it was told goes back to the table.
+    pub(crate) fn end(self, table: &mut AttrTable)
+        requires { CameFrom table.old (kept_of self) }
+        ensures { Moves table.old table.new (kept_of self) [] }
+    {
+        let SessionOut { rows, .. } = self;
+        rows.end(table);
     }
 }
