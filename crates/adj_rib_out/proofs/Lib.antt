@@ -5,3 +5,4 @@ mod Uses
 mod Settling
 mod Messages
 mod Sessions
+mod Nth

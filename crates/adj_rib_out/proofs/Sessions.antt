@@ -1,19 +1,21 @@
 -- One session changes, and all others stay.
 use Rattle.std.proofs.Common.{◌≡◌, ◌≢◌, ℕ, ◌+◌, ◌≤◌, ◌==◌, Bool, true, false, cond, List, [], ◌++◌, Option, Some, None, refl, sym, ap, ◌∙◌, subst, arith}
-use Rattle.std.specs.Prelude.{unwrap_or}
+use Rattle.std.specs.Prelude.{unwrap_or, IsSome, Result, Ok, Err, IfOk, OnErr}
 use Rattle.std.specs.List.{AllByRecursion}
 use Rattle.std.specs.Map.{lookup, set_value, remove_entry}
 use Rattle.std.specs.BTreeMap.{is_at}
 use Rattle.std.specs.Cmp.{unsigned_ties}
 use Rattle.std.specs.Ordering.{nat_cmp}
 use Rattle.std.proofs.lemmas.Bool.{false_from_ne_true}
+use Rattle.std.proofs.lemmas.List.{append-nil}
 use Rattle.std.proofs.lemmas.Bool.Decides.{Decides-eqb}
 use Rattle.attr_model.specs.Numbered.{Numbered}
 use Rattle.attr_intern.specs.Table.{Table, times, IsOf, CameFrom, uses_at}
 use Rattle.adj_rib_out.specs.Out.{Out, Outs, nothing, out_at, kept, kept_of}
 use Rattle.adj_rib_out.specs.Uses.{Moves, Trades}
+use Rattle.adj_rib_out.specs.Steps.{IsSame}
 use Rattle.adj_rib_out.proofs.Kept.{times-append, all-append, all-front, all-back, held-swap, held-less, all-set, all-remove, all-found, f_of}
-use Rattle.adj_rib_out.proofs.Uses.{counted_still, still_of}
+use Rattle.adj_rib_out.proofs.Uses.{counted_still, still_of, moves_same}
 
 -- what stands under a number, by the order of numbers
 abbrev pub out_by : Outs → ℕ → Option Out
@@ -107,3 +109,46 @@ found_at outs session out is = sym (out_is outs session) ∙ ap (λ o. unwrap_or
 
 pub none_at : (outs : Outs) (session : ℕ) → None ≡ out_by outs session → out_at outs session ≡ nothing
 none_at outs session is = sym (out_is outs session) ∙ ap (λ o. unwrap_or o nothing) (sym is)
+
+pub came_one : (table : Table) (outs : Outs) (session : ℕ) (out : Out) → Some out ≡ out_by outs session → CameFrom table (kept outs) → CameFrom table (kept_of out)
+came_one table outs session out is came =
+    subst (CameFrom table) (append-nil (kept_of out)) (came_part table outs session out [] is (subst (CameFrom table) (sym (append-nil (kept outs))) came))
+
+-- nothing moves
+pub trades_none : (table : Table) (ones after : List Numbered) → ones ≡ after → CameFrom table ones → Trades table table ones after
+trades_none table ones after is came = record {
+  moves = subst (Moves table table ones) is (moves_same table ones);
+  each = subst (AllByRecursion (IsOf table)) is came.each;
+}
+
+pub some_out : (out : Out) (o : Option Out) → Some out ≡ o → IsSome o
+some_out out o e = subst (λ o. IsSome o) e refl
+
+pub same_is : (old new : Out) → new ≡ old → IsSame old new
+same_is old new e = subst (λ new. IsSame old new) (sym e) (record { told = λ p. refl; queued = λ p. refl; again = λ p. refl; flight = refl })
+
+pub if_ok : {T E : Type 0} {P Q : T → Type 0} (r : Result T E) → ((x : T) → P x → Q x) → IfOk r P → IfOk r Q
+if_ok (Ok x) f p = f x p
+if_ok (Err e) f p = p
+
+pub on_err : {T E : Type 0} {P Q : Type 0} (r : Result T E) → (P → Q) → OnErr r P → OnErr r Q
+on_err (Ok x) f p = tt
+on_err (Err e) f p = f p
+
+pub trades_kept : {T E : Type 0} {P Q R : T → Type 0} (r : Result T E) → ((x : T) → P x → Q x → R x) → IfOk r P → IfOk r Q → IfOk r R
+trades_kept (Ok x) f p q = f x p q
+trades_kept (Err e) f p q = p
+
+pub on_err_both : {T E : Type 0} {P Q R : Type 0} (r : Result T E) → (P → Q → R) → OnErr r P → OnErr r Q → OnErr r R
+on_err_both (Ok x) f p q = tt
+on_err_both (Err e) f p q = f p q
+
+-- the references of looks go back, and the session keeps what it had
+pub trades_back : (old new : Table) (outs after : Outs) (session : ℕ) (out was : Out) (more : List Numbered) → Some was ≡ out_by outs session → after ≡ set_value (is_at (nat_cmp session)) outs out → CameFrom old (kept outs ++ more)
+    → out ≡ was → Moves old new (kept_of was ++ more) (kept_of was) → Trades old new (kept outs ++ more) (kept after)
+trades_back old new outs after session out was more is set came e moves =
+    let same : kept_of was ≡ kept_of out ++ [] = ap kept_of (sym e) ∙ sym (append-nil (kept_of out)) in
+    subst (Trades old new (kept outs ++ more)) (append-nil (kept after))
+    (trades_all old new outs after session out was more [] is set came
+     (subst (Moves old new (kept_of was ++ more)) same moves)
+     (subst (AllByRecursion (IsOf old)) same (all-front (IsOf old) (kept_of was) more (came_part old outs session was more is came).each)))

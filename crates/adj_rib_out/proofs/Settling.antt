@@ -84,9 +84,18 @@ and_left : (a b : Bool) → (a && b) ≡ true → a ≡ true
 and_left true b e = refl
 and_left false b e = e
 
-and_right : (a b : Bool) → (a && b) ≡ true → b ≡ true
+pub and_right : (a b : Bool) → (a && b) ≡ true → b ≡ true
 and_right true b e = e
 and_right false b e = absurd (true≢false (sym e))
+
+pub left_false : (a b : Bool) → (a || b) ≡ false → a ≡ false
+left_false true b e = e
+left_false false b e = refl
+
+-- what a look does to the message, by the two tests
+pub looked : (old : Out) (message : Option Message) (look : Look) (news joins : Bool) → has_news old look ≡ news → joined message look ≡ joins
+    → with_look old message look ≡ (if news && joins then option_map (with_prefix look.prefix) message else message)
+looked old message look news joins e f = λ i. if e i && f i then option_map (with_prefix look.prefix) message else message
 
 -- ---- what is as told
 

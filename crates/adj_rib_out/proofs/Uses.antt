@@ -8,6 +8,8 @@ use Rattle.attr_model.specs.Numbered.{Numbered}
 use Rattle.attr_model.specs.declared.attrs.Attrs.{Attrs}
 use Rattle.attr_intern.specs.declared.table.Shared.{Shared}
 use Rattle.attr_intern.specs.Table.{Table, shared_at, uses_at, attrs_at, times, IsOf, CameFrom, TakesBack, Hands}
+use Rattle.adj_rib_out.specs.declared.look.Look.{Look}
+use Rattle.adj_rib_out.specs.Packed.{Packed}
 use Rattle.adj_rib_out.specs.Uses.{Moves, Trades}
 use Rattle.adj_rib_out.proofs.Kept.{times-append, all-append, all-front, all-back, some_none}
 
@@ -64,11 +66,14 @@ split_more held back after is number = omega (arith, ap (times number) is, times
 -- what stands among references is of the table
 among : (table : Table) (number : ℕ) (ones : List Numbered) → AllByRecursion (IsOf table) ones → 0 < times number ones → attrs_at table number ≡ None → ⊥
 among table number [] all some none = omega (arith, some, times-none number)
-among table number (one ∷ rest) all some none = go (one.number == number) refl
+among table number (one ∷ rest) all some none = go (λ later. among table number rest all.1 later none) (one.number == number) refl
   where
-    go : (b : Bool) → (one.number == number) ≡ b → ⊥
-    go true e = some_none one.attrs (sym all.0 ∙ ap (attrs_at table) ((Decides-eqb one.number number).0 e) ∙ none)
-    go false e = among table number rest all.1 (omega (arith, some, times-cons number one rest, ap (λ b. cond b 1 0) e)) none
+    skips : (one.number == number) ≡ false → times number (one ∷ rest) ≡ times number rest
+    skips e = omega (arith, times-cons number one rest, ap (λ b. cond b 1 0 + times number rest) e)
+
+    go : (0 < times number rest → ⊥) → (b : Bool) → (one.number == number) ≡ b → ⊥
+    go rec true e = some_none one.attrs (sym all.0 ∙ ap (attrs_at table) ((Decides-eqb one.number number).0 e) ∙ none)
+    go rec false e = rec (omega (arith, some, skips e))
 
 unused : (table : Table) (number : ℕ) → attrs_at table number ≡ None → uses_at table number ≡ 0
 unused table number none = go (shared_at table number) none
@@ -107,3 +112,26 @@ moves_beside old new kept back moves = record { uses = λ number. omega (arith, 
 
 pub came_back : (table : Table) (kept back : List Numbered) → CameFrom table (kept ++ back) → CameFrom table back
 came_back table kept back came = record { each = all-back (IsOf table) kept back came.each; uses = λ number. omega (arith, came.uses number, times-append number kept back) }
+
+pub room_less : (packing : Option Packed) (left : ℕ) → IfSome packing (λ packed. left + 1 ≤ packed.room) → IfSome packing (λ packed. left ≤ packed.room)
+room_less None left some = some
+room_less (Some packed) left some = omega (arith, some)
+
+room_part : (packing : Option Packed) (n m : ℕ) → m ≤ n → IfSome packing (λ packed. n ≤ packed.room) → IfSome packing (λ packed. m ≤ packed.room)
+room_part None n m le some = some
+room_part (Some packed) n m le some = omega (arith, some, le)
+
+one_longer : (looks : List Look) (look : Look) (more : List Look) → looks ≡ look ∷ more → length looks ≡ length more + 1
+one_longer looks look more first = ap length first ∙ omega arith
+
+-- there is room for the first look
+pub room_first : (packing : Option Packed) (looks : List Look) (look : Look) (more : List Look) → looks ≡ look ∷ more → IfSome packing (λ packed. length looks ≤ packed.room) → IfSome packing (λ packed. 0 < packed.room)
+room_first packing looks look more first room = room_part packing (length looks) 1 (omega (arith, one_longer looks look more first)) room
+
+-- and then for the others
+pub room_more : (packing now : Option Packed) (looks : List Look) (look : Look) (more : List Look) → looks ≡ look ∷ more → IfSome packing (λ packed. length looks ≤ packed.room)
+    → (IfSome packing (λ packed. length more + 1 ≤ packed.room) → IfSome now (λ packed. length more ≤ packed.room)) → IfSome now (λ packed. length more ≤ packed.room)
+room_more packing now looks look more first room step = step (room_part packing (length looks) (length more + 1) (omega (arith, one_longer looks look more first)) room)
+
+pub moves_same : (table : Table) (ones : List Numbered) → Moves table table ones ones
+moves_same table ones = record { uses = λ number. refl; stays = λ number some. refl }

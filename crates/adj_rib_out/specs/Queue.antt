@@ -1,5 +1,5 @@
 -- A queue in order.
-use Rattle.std.specs.Prelude.{ℕ, Bool, false, ◌&&◌, Option, None, Some}
+use Rattle.std.specs.Prelude.{ℕ, zero, suc, Bool, false, ◌&&◌, Option, None, Some}
 use Rattle.std.specs.Ordering.{is_lt}
 use Rattle.net_base.specs.declared.prefix.Prefix.{Prefix}
 use Rattle.net_base.specs.Order.{prefix_cmp}

@@ -123,9 +123,13 @@ fn finish(
     ensures less { (number : ℕ) → times number (kept_of out.new) ≤ times number (kept_of out.old ++ wanted_in looks) }
     ensures each { (other : Table) → AllByRecursion (IsOf other) (kept_of out.old ++ wanted_in looks) → AllByRecursion (IsOf other) (kept_of out.new) }
 {
-    let packing = settle(out, table, packing, looks)?;
-    out.send(packing.size());
-    Some(packing.into_built())
+    match settle(out, table, packing, looks) {
+        Some(packing) => {
+            out.send(packing.size());
+            Some(packing.into_built())
+        }
+        None => None,
+    }
 }
 
 /// Handles the looks one after the other, gives back the references that aren't kept, and answers the message with the prefixes
@@ -177,14 +181,16 @@ fn settle_look(
     ensures gone { (table : Table) → AllByRecursion (IsOf table) (kept_of out.old) → AllByRecursion (IsOf table) (one_or_none look.wanted)
         → AllByRecursion (IsOf table) (one_or_none result) }
 {
-    if !has_news(out, &look) {
+    if has_news(out, &look) {
+        if takes(packing, &look) {
+            out.tell(look.prefix, look.wanted)
+        } else {
+            look.wanted
+        }
+    } else {
         out.pass(look.prefix);
-        return look.wanted;
+        look.wanted
     }
-    if !takes(packing, &look) {
-        return look.wanted;
-    }
-    out.tell(look.prefix, look.wanted)
 }
 
 /// Adds the prefix of a look to the message that there is, where it joins. The answer is whether it does.

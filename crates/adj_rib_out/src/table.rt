@@ -1,4 +1,4 @@
-ghost use Rattle.std.specs.Prelude.{◌≡◌, ◌≢◌, ℕ, ◌<◌, ◌≤◌, ◌&&◌, true, [], ◌++◌, length, drop, is_some, option_copied, option_map, OnOk, OnErr, IfOk, IsTrue};
+ghost use Rattle.std.specs.Prelude.{◌≡◌, ◌≢◌, ℕ, ◌<◌, ◌≤◌, ◌&&◌, true, [], ◌++◌, length, drop, is_some, MatchOption, option_copied, option_map, OnOk, OnErr, IfOk, IsTrue};
 ghost use Rattle.std.specs.List.{AllByRecursion, list_any};
 ghost use Rattle.std.specs.Ordering.{is_lt};
 ghost use Rattle.net_base.specs.Order.{prefix_cmp};
@@ -19,7 +19,7 @@ use attr_intern::AttrTable;
 use attr_model::AttrRef;
 use bgp_wire::Encoding;
 use net_base::{NoMemory, Prefix};
-use std::alloc::Global;
+use std::alloc::{AllocError, Global};
 use std::collections::BTreeMap;
 use std::marker::Model;
 
@@ -70,8 +70,19 @@ impl AdjRibOut {
         ensures others { (other : ℕ) → other ≢ session → out_at self.new other ≡ out_at self.old other }
         ensures uses { Trades table.old table.new (kept self.old) (kept self.new) }
     {
-        if let Some(out) = self.sessions.remove(&session) {
-            out.end(table);
+        let Some(out) = self.sessions.remove(&session) else {
+            return;
+        };
+        out.end(table);
+    }
+
+    /// What a session has, or None where it has nothing.
+    fn of(&self, session: u32) -> Option<&SessionOut>
+        ensures { MatchOption result (out_at self.now session ≡ nothing) (λ out. out_at self.now session ≡ out.now) }
+    {
+        match self.sessions.get(&session) {
+            Some(out) => Some(out),
+            None => None,
         }
     }
 
@@ -79,7 +90,10 @@ impl AdjRibOut {
     pub fn told(&self, session: u32, prefix: Prefix) -> Option<&AttrRef>
         ensures { option_copied result ≡ told_at (out_at self.now session) prefix }
     {
-        self.sessions.get(&session)?.told(prefix)
+        match self.of(session) {
+            Some(out) => out.told(prefix),
+            None => None,
+        }
     }
 
     /// Whether a prefix is to be told to a session again, which then is queued.
@@ -87,32 +101,40 @@ impl AdjRibOut {
         ensures value { result ≡ is_again (out_at self.now session) prefix }
         ensures queued { IsTrue result → is_queued (out_at self.now session) prefix ≡ true }
     {
-        self.sessions
-            .get(&session)
-            .is_some_and(|out| out.is_again(prefix))
+        match self.of(session) {
+            Some(out) => out.is_again(prefix),
+            None => false,
+        }
     }
 
     /// Whether a prefix is queued for a session.
     pub fn is_queued(&self, session: u32, prefix: Prefix) -> bool
         ensures { result ≡ is_queued (out_at self.now session) prefix }
     {
-        self.sessions
-            .get(&session)
-            .is_some_and(|out| out.is_queued(prefix))
+        match self.of(session) {
+            Some(out) => out.is_queued(prefix),
+            None => false,
+        }
     }
 
     /// The least prefix that is queued for a session.
     pub fn first_queued(&self, session: u32) -> Option<Prefix>
         ensures { IsLeast (is_queued (out_at self.now session)) result }
     {
-        self.sessions.get(&session)?.first_queued()
+        match self.of(session) {
+            Some(out) => out.first_queued(),
+            None => None,
+        }
     }
 
     /// The next prefix above `after` that is queued for a session.
     pub fn queued_after(&self, session: u32, after: Prefix) -> Option<Prefix>
         ensures { IsLeast (λ p. is_queued (out_at self.now session) p && is_lt (prefix_cmp after p)) result }
     {
-        self.sessions.get(&session)?.queued_after(after)
+        match self.of(session) {
+            Some(out) => out.queued_after(after),
+            None => None,
+        }
     }
 
     /// The prefix with `at` queued ones before it, in order. It walks these, so whoever walks the queue asks for `first_queued` and
@@ -121,7 +143,7 @@ impl AdjRibOut {
         ensures { IsNth (is_queued (out_at self.now session)) at result }
     {
         let mut found = self.first_queued(session);
-        for _ in 0..at {
+        for _before in 0..at {
             let Some(prefix) = found else {
                 return None;
             };
@@ -135,7 +157,7 @@ impl AdjRibOut {
         ensures value { result ≡ length (out_at self.now session).flight }
         ensures window { result ≤ 16 }
     {
-        match self.sessions.get(&session) {
+        match self.of(session) {
             Some(out) => out.in_flight(),
             None => 0,
         }
@@ -150,10 +172,20 @@ impl AdjRibOut {
         ensures err { OnErr result (IsSame (out_at self.old session) (out_at self.new session)) }
     {
         self.begin(session)?;
-        match self.sessions.get_mut(&session) {
-            Some(out) => out.queue(prefix, again),
-            None => Ok(()),
-        }
+        self.queue_in(session, prefix, again)
+    }
+
+    /// The same, where the session began.
+    fn queue_in(&mut self, session: u32, prefix: Prefix, again: bool) -> Result<(), NoMemory>
+        ensures ok { OnOk result (Queues prefix again (out_at self.old session) (out_at self.new session)) }
+        ensures others { (other : ℕ) → other ≢ session → out_at self.new other ≡ out_at self.old other }
+        ensures kept { kept self.new ≡ kept self.old }
+        ensures err { OnErr result (IsSame (out_at self.old session) (out_at self.new session)) }
+    {
+        let Some(out) = self.sessions.get_mut(&session) else {
+            return Err(AllocError);
+        };
+        out.queue(prefix, again)
     }
 
     /// Drops the `n` oldest of the lengths in flight of a session, of which at least `n` are there.
@@ -163,9 +195,10 @@ impl AdjRibOut {
         ensures others { (other : ℕ) → other ≢ session → out_at self.new other ≡ out_at self.old other }
         ensures kept { kept self.new ≡ kept self.old }
     {
-        if let Some(out) = self.sessions.get_mut(&session) {
-            out.credit(n as usize);
-        }
+        let Some(out) = self.sessions.get_mut(&session) else {
+            return;
+        };
+        out.credit(n as usize);
     }
 
     /// Makes a session's next message from looks at queued prefixes (RFC 4271 section 9.2). The first look whose value differs from
@@ -198,9 +231,9 @@ impl AdjRibOut {
         ensures err { OnErr result (IsSame (out_at self.old session) (out_at self.new session)) }
         ensures back { OnErr result (Trades table.old table.new (kept self.old ++ wanted_in looks) (kept self.new)) }
     {
-        match self.sessions.get_mut(&session) {
-            Some(out) => building::build(out, self.alloc, table, enc, looks),
-            None => Ok(None),
-        }
+        let Some(out) = self.sessions.get_mut(&session) else {
+            return Ok(None);
+        };
+        building::build(out, self.alloc, table, enc, looks)
     }
 }
