@@ -10,7 +10,7 @@ nth_more test n before found nth least = subst (λ n. IsNth test n found) one_mo
     one_more : suc n ≡ n + 1
     one_more = omega arith
 
-no_more : (test : Prefix → Bool) (p : Prefix) → (test p && false) ≡ false
+pub no_more : (test : Prefix → Bool) (p : Prefix) → (test p && false) ≡ false
 no_more test p = go (test p)
   where
     go : (b : Bool) → (b && false) ≡ false

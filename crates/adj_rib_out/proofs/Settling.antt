@@ -7,6 +7,7 @@ use Rattle.std.specs.declared.cmp.Ordering.{Ordering}
 use Rattle.std.specs.declared.cmp.Ordering.TheVariants.{Less, Equal, Greater}
 use Rattle.std.proofs.lemmas.Bool.{leb-true}
 use Rattle.std.proofs.lemmas.Bool.Decides.{Decides-eqb}
+use Rattle.std.proofs.lemmas.List.{append-nil}
 use Rattle.std.proofs.lemmas.List.Folds.{list_any-append}
 use Rattle.net_base.specs.declared.prefix.Prefix.{Prefix}
 use Rattle.net_base.specs.Order.{prefix_cmp, same_family}
@@ -17,9 +18,9 @@ use Rattle.attr_intern.specs.Table.{Table, attrs_at, IsOf}
 use Rattle.adj_rib_out.specs.declared.look.Look.{Look}
 use Rattle.adj_rib_out.specs.Same.{same_number}
 use Rattle.adj_rib_out.specs.Rows.{is_same, one_or_none}
-use Rattle.adj_rib_out.specs.Out.{Out, told_at, is_queued, is_again}
+use Rattle.adj_rib_out.specs.Out.{Out, nothing, told_at, is_queued, is_again}
 use Rattle.adj_rib_out.specs.Message.{Message, has_news, joins, joined, with_prefix, with_look, message_size, prefixes_of, wanted_of, as_told, IsInOrder}
-use Rattle.adj_rib_out.specs.Tells.{Passes, Takes, FitsIn, Settled}
+use Rattle.adj_rib_out.specs.Tells.{Passes, Takes, FitsIn, Settled, Tells}
 use Rattle.adj_rib_out.proofs.Puts.{same_turned}
 
 -- The prefix of a look that is left has what it had.
@@ -301,3 +302,20 @@ settled looks old out start message left end settling =
       again = done.again;
       flight = done.flight;
     }
+
+-- no look, no message
+pub tells_none : (old : Out) → Tells None [] old old
+tells_none old = record {
+  told = λ p. refl;
+  queued = λ p. and_two_true (is_queued old p);
+  again = λ p. and_true (is_again old p);
+  flight = sym (append-nil old.flight);
+}
+  where
+    and_two_true : (a : Bool) → a ≡ (a && not false && not false)
+    and_two_true true = refl
+    and_two_true false = refl
+
+pub no_looks : (looks : List Look) → AllByRecursion (λ look. is_queued nothing look.prefix ≡ true) looks → looks ≡ []
+no_looks [] queued = refl
+no_looks (look ∷ rest) queued = absurd (true≢false (sym queued.0))

@@ -135,3 +135,7 @@ room_more packing now looks look more first room step = step (room_part packing 
 
 pub moves_same : (table : Table) (ones : List Numbered) → Moves table table ones ones
 moves_same table ones = record { uses = λ number. refl; stays = λ number some. refl }
+
+pub nothing_left : {X : Type 0} (items : List X) (len : ℕ) → len ≡ length items → len ≡ 0 → items ≡ []
+nothing_left [] len e z = refl
+nothing_left (x ∷ xs) len e z = absurd (omega (arith, e, z))

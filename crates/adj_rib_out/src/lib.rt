@@ -13,5 +13,5 @@ mod table;
 pub use look::{Built, Look, LookList};
 pub use table::AdjRibOut;
 
-//cfg
-//mod tests;
+#[cfg(test)]
+mod tests;

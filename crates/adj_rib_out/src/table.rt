@@ -10,7 +10,7 @@ ghost use Rattle.adj_rib_out.specs.Uses.{Trades};
 ghost use Rattle.adj_rib_out.specs.Looks.{wanted_in, used_by};
 ghost use Rattle.adj_rib_out.specs.Steps.{IsSame, Queues};
 ghost use Rattle.adj_rib_out.specs.Tells.{Tells, FitsIn};
-ghost use Rattle.adj_rib_out.specs.Queue.{IsNth};
+ghost use Rattle.adj_rib_out.specs.Queue.{IsNth, is_above};
 
 use crate::look::{Built, LookList};
 use crate::building;
@@ -139,17 +139,29 @@ impl AdjRibOut {
 
     /// The prefix with `at` queued ones before it, in order. It walks these, so whoever walks the queue asks for `first_queued` and
     /// then for `queued_after`.
+    #[tactic(auto, using(crate::proofs::Nth::nth_more, crate::proofs::Nth::none_until))]
     pub fn queued(&self, session: u32, at: usize) -> Option<Prefix>
         ensures { IsNth (is_queued (out_at self.now session)) at result }
     {
         let mut found = self.first_queued(session);
         for _before in 0..at {
-            let Some(prefix) = found else {
+            if found.is_none() {
                 return None;
-            };
-            found = self.queued_after(session, prefix);
+            }
+            found = self.next_after(session, found);
         }
         found
+    }
+
+    /// The next prefix above the one before, where there is one.
+    #[tactic(auto, using(crate::proofs::Nth::no_more))]
+    fn next_after(&self, session: u32, before: Option<Prefix>) -> Option<Prefix>
+        ensures { IsLeast (λ p. is_queued (out_at self.now session) p && is_above before p) result }
+    {
+        match before {
+            Some(prefix) => self.queued_after(session, prefix),
+            None => None,
+        }
     }
 
     /// How many messages of a session are in flight.

@@ -12,7 +12,7 @@ use Rattle.adj_rib_out.specs.Uses.{Moves}
 use Rattle.adj_rib_out.specs.Packed.{Packed, message_in}
 use Rattle.adj_rib_out.specs.Looks.{wanted_in}
 use Rattle.adj_rib_out.proofs.Kept.{times-append, all-append, all-front, all-back}
-use Rattle.adj_rib_out.proofs.Uses.{back_of, moves_more, split_more, moves_same, room_first, room_more}
+use Rattle.adj_rib_out.proofs.Uses.{nothing_left, back_of, moves_more, split_more, moves_same, room_first, room_more}
 use Rattle.adj_rib_out.proofs.Settling.{Settling, IsAhead, step, settled, settling_start}
 use Rattle.adj_rib_out.proofs.building.settle.Goals as goal
 
@@ -72,7 +72,7 @@ loop-look-preserved c =
     )
 
 pub returns-clause-settles : goal.returns-clause-settles
-returns-clause-settles c = settled c.args.looks c.args.out.now c.loop-look.out (message_in c.args.packing) (message_in c.loop-look.packing) (into_iter_items c.loop-look.look-iterator) c.in-None.ensures.steps.1 c.loop-look.invariant.0
+returns-clause-settles c = settled c.args.looks c.args.out.now c.loop-look.out (message_in c.args.packing) (message_in c.loop-look.packing) (into_iter_items c.loop-look.look-iterator) (nothing_left _ _ c.loop-look.look-iterator.rest.ok.0 c.in-None.ensures.steps.0) c.loop-look.invariant.0
 
 held_end : (mid : List Numbered) (left : List Look) → left ≡ [] → mid ++ wanted_in left ≡ mid
 held_end mid left end = ap (λ looks. mid ++ wanted_in looks) end ∙ append-nil mid
@@ -80,13 +80,13 @@ held_end mid left end = ap (λ looks. mid ++ wanted_in looks) end ∙ append-nil
 pub returns-clause-moves : goal.returns-clause-moves
 returns-clause-moves c =
     subst (λ held. Moves c.args.table.now c.loop-look.table (kept_of c.args.out.now ++ wanted_in c.args.looks) held)
-    (held_end (kept_of c.loop-look.out) (into_iter_items c.loop-look.look-iterator) c.in-None.ensures.steps.1) c.loop-look.invariant.1
+    (held_end (kept_of c.loop-look.out) (into_iter_items c.loop-look.look-iterator) (nothing_left _ _ c.loop-look.look-iterator.rest.ok.0 c.in-None.ensures.steps.0)) c.loop-look.invariant.1
 
 pub returns-clause-less : goal.returns-clause-less
 returns-clause-less c =
     subst (λ held. (number : ℕ) → times number held ≤ times number (kept_of c.args.out.now ++ wanted_in c.args.looks))
-    (held_end (kept_of c.loop-look.out) (into_iter_items c.loop-look.look-iterator) c.in-None.ensures.steps.1) c.loop-look.invariant.3
+    (held_end (kept_of c.loop-look.out) (into_iter_items c.loop-look.look-iterator) (nothing_left _ _ c.loop-look.look-iterator.rest.ok.0 c.in-None.ensures.steps.0)) c.loop-look.invariant.3
 
 pub returns-clause-each : goal.returns-clause-each
 returns-clause-each c = λ other all.
-    subst (λ held. AllByRecursion (IsOf other) held) (held_end (kept_of c.loop-look.out) (into_iter_items c.loop-look.look-iterator) c.in-None.ensures.steps.1) (c.loop-look.invariant.2 other all)
+    subst (λ held. AllByRecursion (IsOf other) held) (held_end (kept_of c.loop-look.out) (into_iter_items c.loop-look.look-iterator) (nothing_left _ _ c.loop-look.look-iterator.rest.ok.0 c.in-None.ensures.steps.0)) (c.loop-look.invariant.2 other all)

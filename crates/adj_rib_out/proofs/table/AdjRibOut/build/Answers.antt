@@ -15,6 +15,7 @@ use Rattle.adj_rib_out.specs.Looks.{wanted_in, used_by}
 use Rattle.adj_rib_out.specs.Steps.{IsSame}
 use Rattle.adj_rib_out.specs.Tells.{Tells, FitsIn}
 use Rattle.adj_rib_out.specs.Uses.{Trades, Moves}
+use Rattle.adj_rib_out.proofs.Settling.{tells_none, no_looks}
 use Rattle.adj_rib_out.proofs.Messages.{built_where_news, message_fits}
 use Rattle.adj_rib_out.proofs.Sessions.{same_is, if_ok, on_err, on_err_both, trades_kept, trades_back}
 
@@ -125,3 +126,38 @@ returns-clause-back c =
      (λ same moves. trades_back c.args.table.now c.build.new.table old new c.args.session w c.in-Some.out.now (wanted_in c.args.looks) found holds.0
        (subst (λ outs. CameFrom c.args.table.now (kept outs ++ wanted_in c.args.looks)) (sym c.self.view_is) c.requires.came) same moves)
      c.build.ensures.err c.build.ensures.back)
+
+pub returns-in_default-clause-tells : goal.returns-in_default-clause-tells
+returns-in_default-clause-tells c =
+    let is : out_at c.args.self.now c.args.session ≡ nothing = ap (λ outs. out_at outs c.args.session) (sym c.self.view_is) ∙ none_at c.self.inside.sessions.entries c.args.session c.in_default.ensures.value in
+    let ends : c.args.looks ≡ [] = no_looks c.args.looks (subst (λ out. AllByRecursion (λ look. is_queued out look.prefix ≡ true) c.args.looks) is c.requires.queued) in
+    let old = out_at c.args.self.now c.args.session in
+    let same : c.get_mut.follows.lender-at-none.entries ≡ c.args.self.now = ap (λ map. map.entries) c.get_mut.follows.holds-at-none ∙ c.self.view_is in
+    subst (λ outs. Tells (message_of c.args.enc old c.args.looks) c.args.looks old (out_at outs c.args.session)) (sym same)
+    (subst (λ looks. Tells (message_of c.args.enc old looks) looks old old) (sym ends) (tells_none old))
+
+pub returns-in_default-clause-built : goal.returns-in_default-clause-built
+returns-in_default-clause-built c =
+    let is : out_at c.args.self.now c.args.session ≡ nothing = ap (λ outs. out_at outs c.args.session) (sym c.self.view_is) ∙ none_at c.self.inside.sessions.entries c.args.session c.in_default.ensures.value in
+    let ends : c.args.looks ≡ [] = no_looks c.args.looks (subst (λ out. AllByRecursion (λ look. is_queued out look.prefix ≡ true) c.args.looks) is c.requires.queued) in
+    let old = out_at c.args.self.now c.args.session in
+    ap (λ looks. option_map built_of (message_of c.args.enc old looks)) (sym ends)
+
+pub returns-in_default-clause-none : goal.returns-in_default-clause-none
+returns-in_default-clause-none c =
+    let is : out_at c.args.self.now c.args.session ≡ nothing = ap (λ outs. out_at outs c.args.session) (sym c.self.view_is) ∙ none_at c.self.inside.sessions.entries c.args.session c.in_default.ensures.value in
+    let ends : c.args.looks ≡ [] = no_looks c.args.looks (subst (λ out. AllByRecursion (λ look. is_queued out look.prefix ≡ true) c.args.looks) is c.requires.queued) in
+    let old = out_at c.args.self.now c.args.session in
+    ap (λ looks. list_any (has_news old) looks) (sym ends)
+
+pub returns-in_default-clause-fits : goal.returns-in_default-clause-fits
+returns-in_default-clause-fits c = message_fits c.args.enc (out_at c.args.self.now c.args.session) c.args.looks c.requires.alone
+
+pub returns-in_default-clause-uses : goal.returns-in_default-clause-uses
+returns-in_default-clause-uses c =
+    let is : out_at c.args.self.now c.args.session ≡ nothing = ap (λ outs. out_at outs c.args.session) (sym c.self.view_is) ∙ none_at c.self.inside.sessions.entries c.args.session c.in_default.ensures.value in
+    let ends : c.args.looks ≡ [] = no_looks c.args.looks (subst (λ out. AllByRecursion (λ look. is_queued out look.prefix ≡ true) c.args.looks) is c.requires.queued) in
+    let old = out_at c.args.self.now c.args.session in
+    let same : c.get_mut.follows.lender-at-none.entries ≡ c.args.self.now = ap (λ map. map.entries) c.get_mut.follows.holds-at-none ∙ c.self.view_is in
+    trades_none c.args.table.now (kept c.args.self.now ++ wanted_in c.args.looks) (kept c.get_mut.follows.lender-at-none.entries ++ [])
+    (ap (λ looks. kept c.args.self.now ++ wanted_in looks) ends ∙ ap (λ outs. kept outs ++ []) (sym same)) c.requires.came

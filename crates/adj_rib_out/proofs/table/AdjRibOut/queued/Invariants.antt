@@ -3,5 +3,5 @@ use Rattle.adj_rib_out.specs.Queue.{IsNth}
 use Rattle.adj_rib_out.proofs.table.AdjRibOut.queued.Given as goal
 
 -- the prefix with so many before it
-abbrev pub invariant-loop-_before : goal.invariant-loop-_before
-invariant-loop-_before l = IsNth (is_queued (out_at l.self l.session)) l._before l.found
+abbrev pub invariant-loop-before : goal.invariant-loop-before
+invariant-loop-before l = IsNth (is_queued (out_at l.self l.session)) l.before l.found
