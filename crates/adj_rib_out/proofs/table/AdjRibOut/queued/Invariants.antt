@@ -4,4 +4,4 @@ use Rattle.adj_rib_out.proofs.table.AdjRibOut.queued.Given as goal
 
 -- the prefix with so many before it
 abbrev pub invariant-loop-before : goal.invariant-loop-before
-invariant-loop-before l = IsNth (is_queued (out_at l.self l.session)) l.before l.found
+invariant-loop-before l = IsNth (is_queued (out_at l.self l.session)) l._before l.found
