@@ -1,0 +1,22 @@
+use Rattle.std.proofs.Common.{◌≡◌, ◌≢◌, ℕ, ◌<◌, ◌≤◌, ◌++◌, ◌&&◌, cond, true, false, [], List, Option, Some, None, length, is_some, refl, sym, ap, ◌∙◌, subst, arith}
+use Rattle.std.specs.Prelude.{OnOk, OnErr, IfOk, drop}
+use Rattle.std.specs.BTreeMap.{is_at}
+use Rattle.std.specs.Ordering.{nat_cmp, is_lt}
+use Rattle.adj_rib_out.specs.Out.{Out, Outs, nothing, out_at, kept, kept_of, told_at, is_queued, is_again}
+use Rattle.adj_rib_out.proofs.Kept.{held-insert, held-set, held-remove, f_of}
+use Rattle.adj_rib_out.proofs.Puts.{none_is}
+use Rattle.adj_rib_out.proofs.Sessions.{out_by, out_is, at_session, at_others, at_same, found_at, none_at, came_part, came_one, trades_all, trades_less, trades_none, some_out}
+use Rattle.adj_rib_out.proofs.table.AdjRibOut.queue.Goals as goal
+use Rattle.adj_rib_out.specs.Steps.{Queues, IsSame}
+
+pub returns-clause-ok : goal.returns-clause-ok
+returns-clause-ok c = subst (λ old. OnOk c.queue_in.result (Queues c.args.prefix c.args.again old (out_at c.queue_in.new.self c.args.session))) (c.in_ok-begin.ensures.same c.args.session) c.queue_in.ensures.ok
+
+pub returns-clause-err : goal.returns-clause-err
+returns-clause-err c = subst (λ old. OnErr c.queue_in.result (IsSame old (out_at c.queue_in.new.self c.args.session))) (c.in_ok-begin.ensures.same c.args.session) c.queue_in.ensures.err
+
+pub returns-clause-others : goal.returns-clause-others
+returns-clause-others c = λ other differ. c.queue_in.ensures.others other differ ∙ c.in_ok-begin.ensures.same other
+
+pub returns-clause-kept : goal.returns-clause-kept
+returns-clause-kept c = c.queue_in.ensures.kept ∙ c.in_ok-begin.ensures.kept

@@ -1,0 +1,11 @@
+pub mod Same
+pub mod Queue
+pub mod Rows
+pub mod Out
+pub mod Keeps
+pub mod Uses
+pub mod Message
+pub mod Packed
+pub mod Looks
+pub mod Steps
+pub mod Tells
