@@ -199,11 +199,11 @@ fn an_unknown_attribute_is_sent_on(rt: HostRuntime) -> Result<(), Fail> {
 #[test]
 fn a_frame(rt: HostRuntime) -> Result<(), Fail> {
     let attrs = route_with_unknown(rt.alloc())?;
+    assert_eq!(rt; frame_attrs_size(&attrs), 11);
     let mut out = Pipe::new(rt.alloc());
     write_frame_attrs(&attrs, &mut out)?;
     let wanted = [0x40, 1, 1, 0, 0x40, 2, 0, 0xe0, 200, 1, 1];
     assert_eq!(rt; out.peek(), wanted.as_slice());
-    assert_eq!(rt; frame_attrs_size(&attrs), 11);
     assert!(rt; read_frame_attrs(rt.alloc(), attrs.hop, 0, out.peek())? == Some(attrs));
     let other = [0x40, 1, 1, 0, 0x40, 2, 0, 0xc0, 200, 1, 1];
     let hop = Addr::unspecified(Family::V4);
