@@ -1,6 +1,6 @@
-pub mod Causes
-pub mod CheckStatuses
-pub mod Coming
-pub mod FrontOfText
-pub mod Replaying
-pub mod ServingLemmas
+mod Causes
+mod CheckStatuses
+mod Coming
+mod FrontOfText
+mod Replaying
+mod ServingLemmas

@@ -1,6 +1,6 @@
-pub mod ConditionLoop
-pub mod GroupLoop
-pub mod Members
-pub mod OptionLoop
-pub mod Products
-pub mod StatementLoop
+mod ConditionLoop
+mod GroupLoop
+mod Members
+mod OptionLoop
+mod Products
+mod StatementLoop

@@ -1,7 +1,7 @@
 pub mod Lists
-pub mod Flags
-pub mod Champions
-pub mod Orders
-pub mod Meds
+mod Flags
+mod Champions
+mod Orders
+mod Meds
 pub mod Eligible
 pub mod SameMembers

@@ -1,13 +1,13 @@
-pub mod LastNumber
-pub mod FrontNumbers
-pub mod BySets
-pub mod EmptySet
-pub mod Placed
-pub mod PartialBits
+mod LastNumber
+mod FrontNumbers
+mod BySets
+mod EmptySet
+mod Placed
+mod PartialBits
 pub mod ItemsValid
-pub mod VerdictValid
+mod VerdictValid
 mod HopFamily
-pub mod Linking
-pub mod Skipping
-pub mod Meets
+mod Linking
+mod Skipping
+mod Meets
 mod SettledNames

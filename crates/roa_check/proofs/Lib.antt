@@ -1,4 +1,4 @@
-pub mod Nesting
-pub mod Parents
+mod Nesting
+mod Parents
 pub mod Placing
 pub mod Walk
