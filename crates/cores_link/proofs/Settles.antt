@@ -33,7 +33,7 @@ pub settle_follows : (old new : Accepted) (u : Option ℕ) → new ≡ record ol
 settle_follows old new u is busy h by =
     let nobody : peers_up (step Settle (settled u) ∷ h) ≡ [] = reports_bring_nobody u (peers_up h) ∙ by.nobody in
     let done : under_way (step Settle (settled u) ∷ h) ≡ None =
-        ap (λ before. fold under_way_told before (reload_reports u)) (sym (busy h by)) ∙ reports_end u in (
+    ap (λ before. fold under_way_told before (reload_reports u)) (sym (busy h by)) ∙ reports_end u in (
       record {
         quiet = tt;
         done = done;

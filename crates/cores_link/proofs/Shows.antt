@@ -40,7 +40,7 @@ pub show_follows : (a : Accepted) (words : List (List ℕ)) (answer : Answer) �
     ((h : History) → AcceptedBy a h → AnswersShowRib h answer) → Follows a a (Ctl words) answer
 show_follows a words answer is_show rows h by =
     let keeps : Keeps (under_way h) (generation h) (peers_up h) answer =
-        show_keeps (under_way h) (generation h) (peers_up h) (conf h) answer (rows h by).busy (rows h by).idle in (
+    show_keeps (under_way h) (generation h) (peers_up h) (conf h) answer (rows h by).busy (rows h by).idle in (
       subst (λ is. AnswersControl is h answer) (sym is_show) (rows h by),
       record {
         conf = by.conf;

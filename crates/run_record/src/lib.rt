@@ -3,6 +3,4 @@
 
 mod laws;
 
-pub use laws::{
-    generations_climb, refusals_change_nothing, rows_come_from_the_last_configuration,
-};
+pub use laws::{generations_climb, refusals_change_nothing, rows_come_from_the_last_configuration};

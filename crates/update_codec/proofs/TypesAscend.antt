@@ -74,8 +74,8 @@ still_behind : (n low high : ℕ) (unknown : List (ℕ × List ℕ)) → AllByRe
 still_behind n low high [] all = tt
 still_behind n low high (first ∷ rest) all =
     elim (is_between low high first) as (λ b. AllByRecursion (λ y. nat_cmp n y ≡ Less) (kinds (map unknown_row (cond b (first ∷ filter (is_between low high) rest) (filter (is_between low high) rest))))) [
-      true ↦ (all.0, still_behind n low high rest all.1)
-    | false ↦ still_behind n low high rest all.1
+      | true ↦ (all.0, still_behind n low high rest all.1)
+      | false ↦ still_behind n low high rest all.1
     ]
 
 picked_sorted : (low high : ℕ) (unknown : List (ℕ × List ℕ)) → IsStrictlySortedBy nat_cmp (types unknown) →
@@ -84,8 +84,8 @@ unfolding IsStrictlySortedBy
 picked_sorted low high [] s = tt
 picked_sorted low high (first ∷ rest) s =
     elim (is_between low high first) as (λ b. IsStrictlySortedBy nat_cmp (kinds (map unknown_row (cond b (first ∷ filter (is_between low high) rest) (filter (is_between low high) rest))))) [
-      true ↦ (still_behind first.0 low high rest s.0, picked_sorted low high rest s.1)
-    | false ↦ picked_sorted low high rest s.1
+      | true ↦ (still_behind first.0 low high rest s.0, picked_sorted low high rest s.1)
+      | false ↦ picked_sorted low high rest s.1
     ]
 
 kind_within : (low high : ℕ) (attribute : ℕ × List ℕ) → is_between low high attribute ≡ true → (low ≤ attribute.0) × (attribute.0 ≤ high)
@@ -95,8 +95,8 @@ picked_within : (low high : ℕ) (unknown : List (ℕ × List ℕ)) → AllByRec
 picked_within low high [] = tt
 picked_within low high (first ∷ rest) =
     elim (is_between low high first) as (λ b. is_between low high first ≡ b → AllByRecursion (λ n. (low ≤ n) × (n ≤ high)) (kinds (map unknown_row (cond b (first ∷ filter (is_between low high) rest) (filter (is_between low high) rest))))) [
-      true ↦ λ is. (kind_within low high first is, picked_within low high rest)
-    | false ↦ λ is. picked_within low high rest
+      | true ↦ λ is. (kind_within low high first is, picked_within low high rest)
+      | false ↦ λ is. picked_within low high rest
     ] refl
 
 picked : (low high : ℕ) (unknown : List (ℕ × List ℕ)) → IsStrictlySortedBy nat_cmp (types unknown) → Ascend low high (unknown_rows low high unknown)
@@ -107,26 +107,26 @@ picked low high unknown s = record { within = picked_within low high unknown; so
 low_ascend : (enc : Encoding) (attrs : Attrs) → IsStrictlySortedBy nat_cmp (types attrs.unknown) → Ascend 0 8 (low_rows enc attrs)
 low_ascend enc attrs s =
     joined 0 6 7 8 _ (list_rows enc attrs) (omega arith) (omega arith) (omega arith)
-      (joined 0 3 4 6 _ (number_rows attrs) (omega arith) (omega arith) (omega arith)
-        (joined 0 0 1 3 _ (route_rows enc attrs) (omega arith) (omega arith) (omega arith)
-          (picked 0 0 attrs.unknown s)
-          (record { within = ((omega arith, omega arith), ((omega arith, omega arith), ((omega arith, omega arith), tt))); sorted = known_3 1 2 3 (omega arith) (omega arith) }))
-        (record { within = ((omega arith, omega arith), ((omega arith, omega arith), ((omega arith, omega arith), tt))); sorted = known_3 4 5 6 (omega arith) (omega arith) }))
-      (record { within = ((omega arith, omega arith), ((omega arith, omega arith), tt)); sorted = known_2 7 8 (omega arith) })
+    (joined 0 3 4 6 _ (number_rows attrs) (omega arith) (omega arith) (omega arith)
+    (joined 0 0 1 3 _ (route_rows enc attrs) (omega arith) (omega arith) (omega arith)
+    (picked 0 0 attrs.unknown s)
+    (record { within = ((omega arith, omega arith), ((omega arith, omega arith), ((omega arith, omega arith), tt))); sorted = known_3 1 2 3 (omega arith) (omega arith) }))
+    (record { within = ((omega arith, omega arith), ((omega arith, omega arith), ((omega arith, omega arith), tt))); sorted = known_3 4 5 6 (omega arith) (omega arith) }))
+    (record { within = ((omega arith, omega arith), ((omega arith, omega arith), tt)); sorted = known_2 7 8 (omega arith) })
 
 high_ascend : (enc : Encoding) (attrs : Attrs) → IsStrictlySortedBy nat_cmp (types attrs.unknown) → Ascend 9 255 (high_rows enc attrs)
 high_ascend enc attrs s =
     joined 9 32 33 255 _ (unknown_rows 33 255 attrs.unknown) (omega arith) (omega arith) (omega arith)
-      (joined 9 31 32 32 _ (large_rows attrs) (omega arith) (omega arith) (omega arith)
-        (joined 9 18 19 31 _ (unknown_rows 19 31 attrs.unknown) (omega arith) (omega arith) (omega arith)
-          (joined 9 16 17 18 _ (as4_rows enc attrs) (omega arith) (omega arith) (omega arith)
-            (picked 9 16 attrs.unknown s)
-            (record { within = ((omega arith, omega arith), ((omega arith, omega arith), tt)); sorted = known_2 17 18 (omega arith) }))
-          (picked 19 31 attrs.unknown s))
-        (record { within = ((omega arith, omega arith), tt); sorted = known_1 32 }))
-      (picked 33 255 attrs.unknown s)
+    (joined 9 31 32 32 _ (large_rows attrs) (omega arith) (omega arith) (omega arith)
+    (joined 9 18 19 31 _ (unknown_rows 19 31 attrs.unknown) (omega arith) (omega arith) (omega arith)
+    (joined 9 16 17 18 _ (as4_rows enc attrs) (omega arith) (omega arith) (omega arith)
+    (picked 9 16 attrs.unknown s)
+    (record { within = ((omega arith, omega arith), ((omega arith, omega arith), tt)); sorted = known_2 17 18 (omega arith) }))
+    (picked 19 31 attrs.unknown s))
+    (record { within = ((omega arith, omega arith), tt); sorted = known_1 32 }))
+    (picked 33 255 attrs.unknown s)
 
 pub types_ascend : (enc : Encoding) (attrs : Attrs) → IsValid attrs → IsStrictlySortedBy nat_cmp (map (λ (row : Row). row.kind) (attrs_rows enc attrs))
 types_ascend enc attrs valid =
     (joined 0 8 9 255 (low_rows enc attrs) (high_rows enc attrs) (omega arith) (omega arith) (omega arith)
-      (low_ascend enc attrs valid.unknown) (high_ascend enc attrs valid.unknown)).sorted
+    (low_ascend enc attrs valid.unknown) (high_ascend enc attrs valid.unknown)).sorted

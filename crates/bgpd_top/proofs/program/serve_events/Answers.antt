@@ -19,5 +19,5 @@ returns-clause-transcript g c =
 pub returns-clause-counts : goal.returns-clause-counts
 returns-clause-counts g c =
     let P : _ → Type 0 = λ input. CountsServing (g.I.Source.faults input) (g.I.Source.faults c.serve.new.world.source.now)
-        (g.O.Sink.faults c.args.out.now) (g.O.Sink.faults c.serve.new.out) c.serve.result in
+    (g.O.Sink.faults c.args.out.now) (g.O.Sink.faults c.serve.new.out) c.serve.result in
     subst P c.new-world.ensures.source.1 (counts_mute c.serve.result _ _ _ _ c.serve.ensures.counts)
