@@ -212,10 +212,10 @@ fn serve_events<I: Source, O: Sink>(
     let Ok(mut router) = Router::new(alloc) else {
         return Err(ServeFault::NoMemory);
     };
-    let Ok(reader) = EventReader::new(alloc) else {
+    let Ok(mut reader) = EventReader::new(alloc) else {
         return Err(ServeFault::NoMemory);
     };
-    let mut world = ReplayWorld::new(alloc, reader, input);
+    let mut world = ReplayWorld::new(alloc, &mut reader, input);
     serve(alloc, &mut router, &mut world, out)
 }
 

@@ -17,21 +17,21 @@ use std::alloc::Global;
 #[derive(Drop)]
 pub struct ReplayWorld<'a, S> {
     alloc: Global,
-    reader: EventReader,
+    reader: &'a mut EventReader,
     source: &'a mut S,
     given: u32,
     end: WorldEnd,
-    ghost live: { end ≡ Open → is_spent_reader reader ≡ false },
-    ghost small: { end ≡ Open → reader_count reader ≤ file_limit },
-    ghost few: { end ≡ Open → given ≤ reader_count reader },
+    ghost live: { end ≡ Open → is_spent_reader reader.now ≡ false },
+    ghost small: { end ≡ Open → reader_count reader.now ≤ file_limit },
+    ghost few: { end ≡ Open → given ≤ reader_count reader.now },
 }
 
 impl<'a, S: Source> ReplayWorld<'a, S> {
     /// The world of the events that the reader has still to give from the source.
-    pub fn new(alloc: Global, reader: EventReader, source: &'a mut S) -> Self
-        requires live { is_spent_reader reader ≡ false }
-        requires small { reader_count reader ≤ file_limit }
-        ensures reader { result.reader ≡ reader }
+    pub fn new(alloc: Global, reader: &'a mut EventReader, source: &'a mut S) -> Self
+        requires live { is_spent_reader reader.old ≡ false }
+        requires small { reader_count reader.old ≤ file_limit }
+        ensures reader { (result.reader.ghost_name ≡ reader.entry.ghost_name) × (result.reader.now ≡ reader.old) }
         ensures source { (result.source.ghost_name ≡ source.entry.ghost_name) × (result.source.now ≡ source.old) }
         ensures events { result.given ≡ 0 }
         ensures end { result.end ≡ Open }
@@ -47,7 +47,7 @@ impl<'a, S: Source> ReplayWorld<'a, S> {
 }
 
 impl<S: Source> World for ReplayWorld<'_, S> {
-    ghost passes = { λ old talk new. PassesFile (to_come old.reader (S.left old.source.now)) talk (to_come new.reader (S.left new.source.now)) };
+    ghost passes = { λ old talk new. PassesFile (to_come old.reader.now (S.left old.source.now)) talk (to_come new.reader.now (S.left new.source.now)) };
 
     ghost events = { λ world. world.given };
 
@@ -57,20 +57,19 @@ impl<S: Source> World for ReplayWorld<'_, S> {
 
     ghost faults = { λ world. S.faults world.source.now };
 
-    ghost borrows = { λ world. world.source.ghost_name ∷ [] };
+    ghost borrows = { λ world. world.reader.ghost_name ∷ world.source.ghost_name ∷ [] };
 
     ghost notes = { false };
 
     fn next(&mut self, alloc: Global, _router: &Router) -> Result<Option<Event>, WorldFault> {
+        self.end = WorldEnd::Ended;
         match self.reader.next(alloc, self.source) {
             Ok(Some(event)) => {
                 self.given += 1;
+                self.end = WorldEnd::Open;
                 Ok(Some(event))
             }
-            Ok(None) => {
-                self.end = WorldEnd::Ended;
-                Ok(None)
-            }
+            Ok(None) => Ok(None),
             Err(fault) => {
                 self.end = WorldEnd::Failed(fault);
                 Err(fault)
