@@ -21,12 +21,12 @@ returns-in-Some-clause-tells c =
     let size = c.size.ensures ∙ capped_is _ settles.fits in
     subst (λ message. Tells message c.args.looks old c.send.new.self) settles.rule
     (subst (λ new. Tells (Some c.in-Some.packing.message) c.args.looks old new) (sym c.send.ensures)
-     (record {
-       told = settles.told;
-       queued = settles.queued;
-       again = settles.again;
-       flight = ap (λ flight. flight ++ c.size.result ∷ []) settles.flight ∙ ap (λ n. old.flight ++ n ∷ []) size;
-     }))
+    (record {
+      told = settles.told;
+      queued = settles.queued;
+      again = settles.again;
+      flight = ap (λ flight. flight ++ c.size.result ∷ []) settles.flight ∙ ap (λ n. old.flight ++ n ∷ []) size;
+    }))
 
 pub returns-in-Some-clause-built : goal.returns-in-Some-clause-built
 returns-in-Some-clause-built c = ap Some c.into_built.ensures ∙ ap (option_map built_of) c.in-Some.ensures.settles.rule

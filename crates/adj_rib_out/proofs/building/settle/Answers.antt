@@ -58,11 +58,10 @@ loop-look-preserved c =
     let split : left ≡ w ++ rest = ap wanted_in first in
     let trade = traded mid new w back rest left split c.settle_look-back.ensures.uses in
     let given : (table : Table) → AllByRecursion (IsOf table) (kept_of c.args.out.now ++ wanted_in c.args.looks) → AllByRecursion (IsOf table) w =
-    λ table all. all-front (IsOf table) w rest (subst (AllByRecursion (IsOf table)) split (all-back (IsOf table) mid left (c.loop-look.invariant.2 table all))) in
-    (
+    λ table all. all-front (IsOf table) w rest (subst (AllByRecursion (IsOf table)) split (all-back (IsOf table) mid left (c.loop-look.invariant.2 table all))) in (
       step c.args.looks c.args.out.now c.loop-look.out c.settle_look-back.new.out (message_in c.args.packing) (message_in c.loop-look.packing) (message_in c.settle_look-back.new.packing) c.in-Some.look looks more t0 first
-      c.settle_look-back.ensures.message c.loop-look.invariant.0 c.requires.wanted (given t0 c.requires.came.each)
-      c.settle_look-back.ensures.as_told c.settle_look-back.ensures.stays c.settle_look-back.ensures.told,
+          c.settle_look-back.ensures.message c.loop-look.invariant.0 c.requires.wanted (given t0 c.requires.came.each)
+          c.settle_look-back.ensures.as_told c.settle_look-back.ensures.stays c.settle_look-back.ensures.told,
       moves_more t0 c.loop-look.table c.give_back.new.table (kept_of c.args.out.now ++ wanted_in c.args.looks) (mid ++ left) back (new ++ rest) trade c.loop-look.invariant.1 c.give_back.ensures,
       (λ table all. all-append (IsOf table) new rest
           (c.settle_look-back.ensures.each table (all-front (IsOf table) mid left (c.loop-look.invariant.2 table all)) (given table all))

@@ -13,8 +13,8 @@ returns-clause-same c =
     let new = c.insert.new.self.entries in
     subst (λ outs. (other : ℕ) → out_at new other ≡ out_at outs other) c.self.view_is
     (at_same old new c.args.session
-     (subst (λ out. (q : ℕ) → out_by new q ≡ cond (is_at (nat_cmp c.args.session) q) (Some out) (out_by old q)) c.in_ok-out.ensures c.in_ok-insert.ensures.updates.0)
-     (none_is (out_by old c.args.session) (sym c.contains_key.ensures ∙ c.if-contains_key.false)))
+    (subst (λ out. (q : ℕ) → out_by new q ≡ cond (is_at (nat_cmp c.args.session) q) (Some out) (out_by old q)) c.in_ok-out.ensures c.in_ok-insert.ensures.updates.0)
+    (none_is (out_by old c.args.session) (sym c.contains_key.ensures ∙ c.if-contains_key.false)))
 
 pub returns-clause-kept : goal.returns-clause-kept
 returns-clause-kept c =

@@ -83,9 +83,9 @@ returns-clause-uses c =
     let now : out_at new c.args.session ≡ w = at_session old new c.args.session (Some w) put in
     subst (λ outs. IfOk c.build.result (λ built. Trades c.args.table.now c.build.new.table (kept outs ++ wanted_in c.args.looks) (kept new ++ used_by built))) c.self.view_is
     (trades_kept c.build.result
-     (λ built moves each. trades_all c.args.table.now c.build.new.table old new c.args.session w c.in-Some.out.now (wanted_in c.args.looks) (used_by built) found holds.0
-       (subst (λ outs. CameFrom c.args.table.now (kept outs ++ wanted_in c.args.looks)) (sym c.self.view_is) c.requires.came) moves each)
-     c.build.ensures.moves c.build.ensures.each)
+    (λ built moves each. trades_all c.args.table.now c.build.new.table old new c.args.session w c.in-Some.out.now (wanted_in c.args.looks) (used_by built) found holds.0
+    (subst (λ outs. CameFrom c.args.table.now (kept outs ++ wanted_in c.args.looks)) (sym c.self.view_is) c.requires.came) moves each)
+    c.build.ensures.moves c.build.ensures.each)
 
 pub returns-clause-others : goal.returns-clause-others
 returns-clause-others c =
@@ -123,9 +123,9 @@ returns-clause-back c =
     let now : out_at new c.args.session ≡ w = at_session old new c.args.session (Some w) put in
     subst (λ outs. OnErr c.build.result (Trades c.args.table.now c.build.new.table (kept outs ++ wanted_in c.args.looks) (kept new))) c.self.view_is
     (on_err_both c.build.result
-     (λ same moves. trades_back c.args.table.now c.build.new.table old new c.args.session w c.in-Some.out.now (wanted_in c.args.looks) found holds.0
-       (subst (λ outs. CameFrom c.args.table.now (kept outs ++ wanted_in c.args.looks)) (sym c.self.view_is) c.requires.came) same moves)
-     c.build.ensures.err c.build.ensures.back)
+    (λ same moves. trades_back c.args.table.now c.build.new.table old new c.args.session w c.in-Some.out.now (wanted_in c.args.looks) found holds.0
+    (subst (λ outs. CameFrom c.args.table.now (kept outs ++ wanted_in c.args.looks)) (sym c.self.view_is) c.requires.came) same moves)
+    c.build.ensures.err c.build.ensures.back)
 
 pub returns-in_default-clause-tells : goal.returns-in_default-clause-tells
 returns-in_default-clause-tells c =

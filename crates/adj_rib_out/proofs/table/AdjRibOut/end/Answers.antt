@@ -26,7 +26,7 @@ returns-clause-uses c =
     let old = c.self.inside.sessions.entries in
     subst (λ outs. Trades c.args.table.now c.end.new.table (kept outs) (kept c.remove.new.self.entries)) c.self.view_is
     (trades_less c.args.table.now c.end.new.table old c.remove.new.self.entries c.args.session c.in-Some.out c.in-Some.ensures.value c.in-Some.ensures.entries
-     (subst (λ outs. CameFrom c.args.table.now (kept outs)) (sym c.self.view_is) c.requires) c.end.ensures)
+    (subst (λ outs. CameFrom c.args.table.now (kept outs)) (sym c.self.view_is) c.requires) c.end.ensures)
 
 pub returns-in_default-clause-ended : goal.returns-in_default-clause-ended
 returns-in_default-clause-ended c = at_session c.self.inside.sessions.entries c.remove.new.self.entries c.args.session None c.in_default.ensures.updates.0
