@@ -1,5 +1,5 @@
 -- One session changes, and all others stay.
-use Rattle.std.proofs.Common.{◌≡◌, ◌≢◌, ℕ, ◌+◌, ◌≤◌, ◌==◌, Bool, true, false, cond, List, [], ◌++◌, Option, Some, None, refl, sym, ap, ◌∙◌, subst, arith}
+use Rattle.std.proofs.Common.{◌≡◌, ◌≢◌, ℕ, ◌≤◌, ◌==◌, Bool, true, false, cond, List, [], ◌++◌, Option, Some, None, refl, sym, ap, ◌∙◌, subst, arith}
 use Rattle.std.specs.Prelude.{unwrap_or, IsSome, Result, Ok, Err, IfOk, OnErr}
 use Rattle.std.specs.List.{AllByRecursion}
 use Rattle.std.specs.Map.{lookup, set_value, remove_entry}
@@ -10,7 +10,7 @@ use Rattle.std.proofs.lemmas.Bool.{false_from_ne_true}
 use Rattle.std.proofs.lemmas.List.{append-nil}
 use Rattle.std.proofs.lemmas.Bool.Decides.{Decides-eqb}
 use Rattle.attr_model.specs.Numbered.{Numbered}
-use Rattle.attr_intern.specs.Table.{Table, times, IsOf, CameFrom, uses_at}
+use Rattle.attr_intern.specs.Table.{Table, times, IsOf, CameFrom}
 use Rattle.adj_rib_out.specs.Out.{Out, Outs, nothing, out_at, kept, kept_of}
 use Rattle.adj_rib_out.specs.Uses.{Moves, Trades}
 use Rattle.adj_rib_out.specs.Steps.{IsSame}

@@ -1,4 +1,4 @@
-use Rattle.std.proofs.Common.{◌≡◌, ℕ, ◌++◌, Bool, List, Option, sym, ap, ◌∙◌, subst}
+use Rattle.std.proofs.Common.{◌≡◌, ◌++◌, Bool, List, Option, sym, ap, ◌∙◌, subst}
 use Rattle.std.specs.Prelude.{fold, find, option_map}
 use Rattle.std.specs.List.{AllByRecursion}
 use Rattle.bgp_wire.specs.declared.open.Encoding.{Encoding}

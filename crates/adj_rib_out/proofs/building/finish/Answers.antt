@@ -1,11 +1,11 @@
-use Rattle.std.proofs.Common.{◌≡◌, ℕ, ◌<◌, ◌≤◌, ◌++◌, ◌∷◌, [], length, List, Option, Some, None, sym, ap, ◌∙◌, subst, arith}
-use Rattle.std.specs.Prelude.{fold, option_map}
+use Rattle.std.proofs.Common.{ℕ, ◌<◌, ◌≤◌, ◌++◌, ◌∷◌, [], length, List, Some, sym, ap, ◌∙◌, subst}
+use Rattle.std.specs.Prelude.{option_map}
 use Rattle.std.specs.List.{AllByRecursion}
 use Rattle.std.proofs.lemmas.List.{append-nil}
 use Rattle.attr_intern.specs.Table.{Table, IsOf, times}
-use Rattle.adj_rib_out.specs.Out.{Out, kept_of}
+use Rattle.adj_rib_out.specs.Out.{kept_of}
 use Rattle.adj_rib_out.specs.Uses.{Moves}
-use Rattle.adj_rib_out.specs.Message.{Message, built_of}
+use Rattle.adj_rib_out.specs.Message.{built_of}
 use Rattle.adj_rib_out.specs.Looks.{wanted_in}
 use Rattle.adj_rib_out.specs.Tells.{Tells}
 use Rattle.adj_rib_out.proofs.Messages.{capped_is}

@@ -1,7 +1,7 @@
-use Rattle.std.proofs.Common.{◌≡◌, ℕ, ◌≤◌, ap, subst, arith}
+use Rattle.std.proofs.Common.{ap, subst, arith}
 use Rattle.std.specs.List.{AllByRecursion}
 use Rattle.std.specs.Vec.Iter.{into_iter_items}
-use Rattle.attr_intern.specs.Table.{IsOf, times}
+use Rattle.attr_intern.specs.Table.{IsOf}
 use Rattle.adj_rib_out.specs.Rows.{one_or_none}
 use Rattle.adj_rib_out.specs.Looks.{wanted_in}
 use Rattle.adj_rib_out.proofs.Kept.{all-front, all-back}

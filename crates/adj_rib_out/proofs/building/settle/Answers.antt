@@ -1,5 +1,4 @@
-use Rattle.std.proofs.Common.{◌≡◌, ℕ, ◌+◌, ◌<◌, ◌≤◌, ◌++◌, ◌∷◌, [], List, Option, Some, None, length, sym, ap, ◌∙◌, subst, arith}
-use Rattle.std.specs.Prelude.{IfSome}
+use Rattle.std.proofs.Common.{◌≡◌, ℕ, ◌+◌, ◌≤◌, ◌++◌, [], List, length, ap, ◌∙◌, subst, arith}
 use Rattle.std.specs.List.{AllByRecursion}
 use Rattle.std.specs.Vec.Iter.{into_iter_items}
 use Rattle.std.proofs.lemmas.List.{append-nil}
@@ -7,13 +6,13 @@ use Rattle.attr_model.specs.Numbered.{Numbered}
 use Rattle.attr_intern.specs.Table.{Table, IsOf, times}
 use Rattle.adj_rib_out.specs.declared.look.Look.{Look}
 use Rattle.adj_rib_out.specs.Rows.{one_or_none}
-use Rattle.adj_rib_out.specs.Out.{Out, kept_of, is_queued}
+use Rattle.adj_rib_out.specs.Out.{kept_of}
 use Rattle.adj_rib_out.specs.Uses.{Moves}
-use Rattle.adj_rib_out.specs.Packed.{Packed, message_in}
+use Rattle.adj_rib_out.specs.Packed.{message_in}
 use Rattle.adj_rib_out.specs.Looks.{wanted_in}
 use Rattle.adj_rib_out.proofs.Kept.{times-append, all-append, all-front, all-back}
-use Rattle.adj_rib_out.proofs.Uses.{nothing_left, back_of, moves_more, split_more, moves_same, room_first, room_more}
-use Rattle.adj_rib_out.proofs.Settling.{Settling, IsAhead, step, settled, settling_start}
+use Rattle.adj_rib_out.proofs.Uses.{nothing_left, back_of, moves_more, split_more, room_first, room_more}
+use Rattle.adj_rib_out.proofs.Settling.{IsAhead, step, settled}
 use Rattle.adj_rib_out.proofs.building.settle.Goals as goal
 
 -- what is held with a look is what is held behind it, and what goes back

@@ -1,6 +1,6 @@
-use Rattle.std.proofs.Common.{◌≡◌, ℕ, ◌≤◌, ap, subst, arith}
+use Rattle.std.proofs.Common.{ap, subst, arith}
 use Rattle.std.specs.List.{AllByRecursion}
-use Rattle.attr_intern.specs.Table.{IsOf, times}
+use Rattle.attr_intern.specs.Table.{IsOf}
 use Rattle.adj_rib_out.specs.Rows.{kept_in, one_or_none}
 use Rattle.adj_rib_out.proofs.Kept.{all-front, all-back}
 use Rattle.adj_rib_out.proofs.Uses.{back_of, moves_more, split_more}

@@ -1,13 +1,13 @@
-use Rattle.std.proofs.Common.{◌≡◌, ℕ, ◌+◌, ◌&&◌, not, cond, Some, List, Option, false, is_some, refl, sym, ap, ◌∙◌, subst, arith, None, true≢false}
+use Rattle.std.proofs.Common.{◌≡◌, ℕ, ◌+◌, ◌&&◌, not, cond, Some, List, Option, false, is_some, sym, ap, ◌∙◌, subst, arith, None, true≢false}
 use Rattle.net_base.specs.declared.prefix.Prefix.{Prefix}
 use Rattle.net_base.specs.contracts.prefix.PrefixOrd.TheImpl.{cmp-value as derived}
 use Rattle.net_base.proofs.Order.{derived_prefix_cmp}
 use Rattle.adj_rib_out.specs.declared.rows.Row.{Row}
 use Rattle.attr_model.specs.Numbered.{Numbered}
-use Rattle.attr_intern.specs.Table.{Table, times, IsOf}
+use Rattle.attr_intern.specs.Table.{times, IsOf}
 use Rattle.adj_rib_out.specs.Rows.{is_same, has_row, told_of, told_in, again_of, again_in, kept_in, one_or_none, row_at}
 use Rattle.adj_rib_out.proofs.Kept.{held-swap, all-set, all-found, f_of}
-use Rattle.adj_rib_out.proofs.Puts.{Puts, puts, row_by, row_is, asked, unasked, and_is, some_is}
+use Rattle.adj_rib_out.proofs.Puts.{puts, row_by, row_is, asked, unasked, and_is, some_is}
 use Rattle.std.specs.BTreeMap.{is_at}
 use Rattle.std.specs.List.{AllByRecursion}
 use Rattle.adj_rib_out.proofs.rows.Rows.replace.Goals as goal

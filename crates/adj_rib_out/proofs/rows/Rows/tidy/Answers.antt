@@ -1,11 +1,11 @@
-use Rattle.std.proofs.Common.{◌≡◌, Some, None, false, true, is_some, refl, sym, ap, ◌∙◌, subst}
+use Rattle.std.proofs.Common.{◌≡◌, None, false, is_some, sym, ap, ◌∙◌, subst}
 use Rattle.net_base.specs.declared.prefix.Prefix.{Prefix}
 use Rattle.net_base.specs.contracts.prefix.PrefixOrd.TheImpl.{cmp-value as derived}
 use Rattle.net_base.proofs.Order.{derived_prefix_cmp}
 use Rattle.adj_rib_out.specs.declared.rows.Row.{Row}
 use Rattle.adj_rib_out.specs.Rows.{is_same, has_row, told_of, told_in, again_of, again_in, kept_in, one_or_none, row_at}
 use Rattle.adj_rib_out.proofs.Kept.{held-remove, f_of}
-use Rattle.adj_rib_out.proofs.Puts.{Puts, puts, row_by, row_is, asked, unasked, elsewhere, nothing_kept}
+use Rattle.adj_rib_out.proofs.Puts.{puts, row_is, asked, unasked, elsewhere, nothing_kept}
 use Rattle.std.specs.BTreeMap.{is_at}
 use Rattle.adj_rib_out.specs.Rows.{SentRows}
 use Rattle.adj_rib_out.proofs.rows.Rows.tidy.Goals as goal
