@@ -42,8 +42,8 @@ pub kept_queued : (rows more : SentRows) (queue longer : List Prefix) (prefix : 
     → ((p : Prefix) → is_in longer p ≡ (is_same p prefix || is_in queue p)) → IsKept more longer
 kept_queued rows more queue longer prefix kept has again members = record {
   has_row = λ p queued. has p ∙ or_cases (is_same p prefix) (is_in queue p) (sym (members p) ∙ queued)
-    (λ same. ap (λ b. b || has_row rows p) same)
-    (λ there. or_right (is_same p prefix) (has_row rows p) (kept.has_row p there));
+      (λ same. ap (λ b. b || has_row rows p) same)
+      (λ there. or_right (is_same p prefix) (has_row rows p) (kept.has_row p there));
   queued = λ p is. members p ∙ or_right (is_same p prefix) (is_in queue p) (kept.queued p (sym (again p) ∙ is));
 }
 
@@ -53,8 +53,8 @@ pub kept_marked : (rows more : SentRows) (queue : List Prefix) (prefix : Prefix)
 kept_marked rows more queue prefix kept has again queued = record {
   has_row = λ p there. has p ∙ kept.has_row p there;
   queued = λ p is. or_cases (is_same p prefix) (again_in rows p) (sym (again p) ∙ is)
-    (λ same. ap (is_in queue) (prefix_cmp-Equal p prefix same) ∙ queued)
-    (kept.queued p);
+      (λ same. ap (is_in queue) (prefix_cmp-Equal p prefix same) ∙ queued)
+      (kept.queued p);
 }
 
 -- a prefix is no longer to be told again

@@ -1,5 +1,5 @@
 -- Places in a queue.
-use Rattle.std.proofs.Common.{◌≡◌, ℕ, zero, suc, ◌+◌, ◌-◌, ◌≤◌, Bool, true, false, ◌&&◌, Option, Some, None, refl, sym, ap, ◌∙◌, subst, arith}
+use Rattle.std.proofs.Common.{◌≡◌, ℕ, zero, suc, ◌+◌, ◌-◌, ◌≤◌, Bool, true, false, ◌&&◌, Option, None, refl, subst, arith}
 use Rattle.net_base.specs.declared.prefix.Prefix.{Prefix}
 use Rattle.net_base.specs.PrefixSet.{IsLeast}
 use Rattle.adj_rib_out.specs.Queue.{is_above, IsNth}

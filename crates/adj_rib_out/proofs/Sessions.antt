@@ -1,5 +1,5 @@
 -- One session changes, and all others stay.
-use Rattle.std.proofs.Common.{◌≡◌, ◌≢◌, ℕ, ◌+◌, ◌≤◌, ◌==◌, Bool, true, false, cond, List, [], ◌++◌, Option, Some, None, refl, sym, ap, ◌∙◌, subst, arith}
+use Rattle.std.proofs.Common.{◌≡◌, ◌≢◌, ℕ, ◌≤◌, ◌==◌, Bool, true, false, cond, List, [], ◌++◌, Option, Some, None, refl, sym, ap, ◌∙◌, subst, arith}
 use Rattle.std.specs.Prelude.{unwrap_or, IsSome, Result, Ok, Err, IfOk, OnErr}
 use Rattle.std.specs.List.{AllByRecursion}
 use Rattle.std.specs.Map.{lookup, set_value, remove_entry}
@@ -10,7 +10,7 @@ use Rattle.std.proofs.lemmas.Bool.{false_from_ne_true}
 use Rattle.std.proofs.lemmas.List.{append-nil}
 use Rattle.std.proofs.lemmas.Bool.Decides.{Decides-eqb}
 use Rattle.attr_model.specs.Numbered.{Numbered}
-use Rattle.attr_intern.specs.Table.{Table, times, IsOf, CameFrom, uses_at}
+use Rattle.attr_intern.specs.Table.{Table, times, IsOf, CameFrom}
 use Rattle.adj_rib_out.specs.Out.{Out, Outs, nothing, out_at, kept, kept_of}
 use Rattle.adj_rib_out.specs.Uses.{Moves, Trades}
 use Rattle.adj_rib_out.specs.Steps.{IsSame}
@@ -57,9 +57,14 @@ came_part table outs session out more is came = record {
   each = all-append (IsOf table) (kept_of out) more
       (subst (λ o. AllByRecursion (IsOf table) (f_of kept_of o)) (sym is) (all-found kept_of (is_at (nat_cmp session)) (IsOf table) outs (all-front (IsOf table) (kept outs) more came.each)))
       (all-back (IsOf table) (kept outs) more came.each);
-  uses = λ number. omega (arith,
-      came.uses number, times-append number (kept outs) more, times-append number (kept_of out) more, part_counted number outs session,
-      ap (λ o. times number (f_of kept_of o)) is);
+  uses = λ number. omega (
+    arith,
+    came.uses number,
+    times-append number (kept outs) more,
+    times-append number (kept_of out) more,
+    part_counted number outs session,
+    ap (λ o. times number (f_of kept_of o)) is,
+  );
 }
 
 -- What moves for one session moves for all.
@@ -71,17 +76,24 @@ trades_all old new outs after session out was more used is set came moves each =
   moves = whole;
   each = still_of old new (kept after ++ used)
       (all-append (IsOf old) (kept after) used
-       (subst (λ after. AllByRecursion (IsOf old) (kept after)) (sym set) (all-set kept_of (is_at (nat_cmp session)) (IsOf old) outs out (all-front (IsOf old) (kept outs) more came.each) (all-front (IsOf old) (kept_of out) used each)))
-       (all-back (IsOf old) (kept_of out) used each))
+      (subst (λ after. AllByRecursion (IsOf old) (kept after)) (sym set) (all-set kept_of (is_at (nat_cmp session)) (IsOf old) outs out (all-front (IsOf old) (kept outs) more came.each) (all-front (IsOf old) (kept_of out) used each)))
+      (all-back (IsOf old) (kept_of out) used each))
       (counted_still old new (kept outs ++ more) (kept after ++ used) came.uses whole)
       moves.stays;
 }
   where
     whole : Moves old new (kept outs ++ more) (kept after ++ used)
     whole = record {
-      uses = λ number. omega (arith,
-          moves.uses number, times-append number (kept outs) more, times-append number (kept_of was) more, times-append number (kept after) used, times-append number (kept_of out) used,
-          ap (λ after. times number (kept after)) set, held-swap kept_of (is_at (nat_cmp session)) number outs was out (sym is));
+      uses = λ number. omega (
+        arith,
+        moves.uses number,
+        times-append number (kept outs) more,
+        times-append number (kept_of was) more,
+        times-append number (kept after) used,
+        times-append number (kept_of out) used,
+        ap (λ after. times number (kept after)) set,
+        held-swap kept_of (is_at (nat_cmp session)) number outs was out (sym is),
+      );
       stays = moves.stays;
     }
 
@@ -98,9 +110,13 @@ trades_less old new outs after session was is gone came moves = record {
   where
     whole : Moves old new (kept outs) (kept after)
     whole = record {
-      uses = λ number. omega (arith,
-          moves.uses number, ap (λ after. times number (kept after)) gone, held-less kept_of (is_at (nat_cmp session)) number outs,
-          ap (λ o. times number (f_of kept_of o)) is);
+      uses = λ number. omega (
+        arith,
+        moves.uses number,
+        ap (λ after. times number (kept after)) gone,
+        held-less kept_of (is_at (nat_cmp session)) number outs,
+        ap (λ o. times number (f_of kept_of o)) is,
+      );
       stays = moves.stays;
     }
 
@@ -150,5 +166,5 @@ trades_back old new outs after session out was more is set came e moves =
     let same : kept_of was ≡ kept_of out ++ [] = ap kept_of (sym e) ∙ sym (append-nil (kept_of out)) in
     subst (Trades old new (kept outs ++ more)) (append-nil (kept after))
     (trades_all old new outs after session out was more [] is set came
-     (subst (Moves old new (kept_of was ++ more)) same moves)
-     (subst (AllByRecursion (IsOf old)) same (all-front (IsOf old) (kept_of was) more (came_part old outs session was more is came).each)))
+    (subst (Moves old new (kept_of was ++ more)) same moves)
+    (subst (AllByRecursion (IsOf old)) same (all-front (IsOf old) (kept_of was) more (came_part old outs session was more is came).each)))

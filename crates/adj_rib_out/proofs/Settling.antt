@@ -1,7 +1,7 @@
 -- Looks that are handled one after the other: what is done so far, followed by what is left, is the whole.
-use Rattle.std.proofs.Common.{◌≡◌, ℕ, ◌≤◌, ◌==◌, nat_le, Bool, true, false, cond, not, ◌&&◌, ◌||◌, if◌then◌else◌, List, [], ◌∷◌, ◌++◌, Option, Some, None, map, refl, sym, ap, ◌∙◌, subst, true≢false}
+use Rattle.std.proofs.Common.{◌≡◌, nat_le, Bool, true, false, cond, not, ◌&&◌, ◌||◌, if◌then◌else◌, List, [], ◌∷◌, Option, Some, None, map, refl, sym, ap, ◌∙◌, subst, true≢false}
 use Rattle.std.specs.Prelude.{fold, option_map}
-use Rattle.std.specs.List.{AllByRecursion, filter, list_any}
+use Rattle.std.specs.List.{AllByRecursion, filter}
 use Rattle.std.specs.Ordering.{is_eq, is_lt}
 use Rattle.std.specs.declared.cmp.Ordering.{Ordering}
 use Rattle.std.specs.declared.cmp.Ordering.TheVariants.{Less, Equal, Greater}
@@ -127,8 +127,7 @@ pub record ChangesAt (prefix : Prefix) (out new : Out) : Type 0 where
 still_ahead : (old out new : Out) (prefix : Prefix) (rest : List Look) → ChangesAt prefix out new → AllByRecursion (λ other. is_lt (prefix_cmp prefix other.prefix) ≡ true) rest → AllByRecursion (IsAhead old out) rest → AllByRecursion (IsAhead old new) rest
 still_ahead old out new prefix [] change below ahead = tt
 still_ahead old out new prefix (other ∷ rest) change below ahead =
-    let far = apart prefix other.prefix below.0 in
-    (
+    let far = apart prefix other.prefix below.0 in (
       record { told = change.told other.prefix far ∙ ahead.0.told; again = change.again other.prefix far ∙ ahead.0.again; queued = change.queued other.prefix far ∙ ahead.0.queued },
       still_ahead old out new prefix rest change below.1 ahead.1,
     )
@@ -206,7 +205,7 @@ module _ (looks : List Look) (old out new : Out) (start message more : Option Me
         queued = λ p.
             ap (λ b. b && not (is_in (as_told old rest) p)) (passes.queued p)
             ∙ stale_queue (is_same p look.prefix) (is_queued out p) (is_in (as_told old rest) p) _
-              (ap (λ b. is_queued out p && not b) (sym (in_told_stale old look rest p (sym (news_are old out look here.ahead.0) ∙ stale))) ∙ here.queued p);
+            (ap (λ b. is_queued out p && not b) (sym (in_told_stale old look rest p (sym (news_are old out look here.ahead.0) ∙ stale))) ∙ here.queued p);
         again = λ p. passes.again p ∙ settling.again p;
         flight = passes.flight ∙ settling.flight;
         ahead = still_ahead old out new look.prefix rest (passes_at look.prefix out new passes) here.order.0 here.ahead.1;
@@ -218,20 +217,20 @@ module _ (looks : List Look) (old out new : Out) (start message more : Option Me
   step_stays news stays same =
       subst (λ new. Settling looks old new start more rest) (sym same)
       (subst (λ more. fold (with_look old) more rest ≡ fold (with_look old) start looks → Settling looks old out start more rest)
-       (sym (now ∙ ap (λ b. if b && joined message look then option_map (with_prefix look.prefix) message else message) news
-             ∙ ap (λ b. if b then option_map (with_prefix look.prefix) message else message) stays))
-       (λ rule. record {
-         rule = rule;
-         fits = settling.fits;
-         same = settling.same;
-         told = settling.told;
-         queued = λ p. ap (λ b. is_queued out p && not b) (sym (in_told_news old look rest p (sym (news_are old out look here.ahead.0) ∙ news))) ∙ here.queued p;
-         again = settling.again;
-         flight = settling.flight;
-         ahead = here.ahead.1;
-         order = here.order.1;
-       })
-       rule_more)
+      (sym (now ∙ ap (λ b. if b && joined message look then option_map (with_prefix look.prefix) message else message) news
+      ∙ ap (λ b. if b then option_map (with_prefix look.prefix) message else message) stays))
+      (λ rule. record {
+        rule = rule;
+        fits = settling.fits;
+        same = settling.same;
+        told = settling.told;
+        queued = λ p. ap (λ b. is_queued out p && not b) (sym (in_told_news old look rest p (sym (news_are old out look here.ahead.0) ∙ news))) ∙ here.queued p;
+        again = settling.again;
+        flight = settling.flight;
+        ahead = here.ahead.1;
+        order = here.order.1;
+      })
+      rule_more)
 
   pub step_taken : (table : Table) → AllByRecursion (IsOf table) (one_or_none (wanted_of start)) → AllByRecursion (IsOf table) (one_or_none look.wanted) → has_news out look ≡ true → joined message look ≡ true → Takes look.prefix look.wanted out new
       → Settling looks old new start more rest
@@ -265,7 +264,7 @@ module _ (looks : List Look) (old out new : Out) (start message more : Option Me
             queued = λ p.
                 ap (λ b. b && not (is_in (as_told old rest) p)) (takes.queued p)
                 ∙ taken_queue (is_same p look.prefix) (is_queued out p) (is_in (as_told old rest) p) (is_queued old p) (is_in m.prefixes p) (is_in (as_told old looks) p)
-                  (ap (λ b. is_queued out p && not b) (sym (in_told_news old look rest p (sym (news_are old out look whole.ahead.0) ∙ news))) ∙ whole.queued p)
+                (ap (λ b. is_queued out p && not b) (sym (in_told_news old look rest p (sym (news_are old out look whole.ahead.0) ∙ news))) ∙ whole.queued p)
                 ∙ ap (λ b. is_queued old p && not b && not (is_in (as_told old looks) p)) (sym (list_any-append (λ q. is_same p q) m.prefixes (look.prefix ∷ [])));
             again = λ p.
                 takes.again p ∙ taken_again (is_same p look.prefix) (is_again out p) (is_again old p) (is_in m.prefixes p) (whole.again p)

@@ -1,5 +1,5 @@
 -- References that go back, and what is still of the table.
-use Rattle.std.proofs.Common.{◌≡◌, ℕ, ◌+◌, ◌<◌, ◌≤◌, ◌==◌, Bool, true, false, cond, List, [], ◌∷◌, ◌++◌, Option, Some, None, refl, sym, ap, ◌∙◌, arith, subst}
+use Rattle.std.proofs.Common.{◌≡◌, ℕ, ◌+◌, ◌<◌, ◌≤◌, ◌==◌, Bool, true, false, cond, List, [], ◌∷◌, ◌++◌, Option, Some, None, refl, sym, ap, ◌∙◌, arith}
 use Rattle.std.specs.Prelude.{unwrap_or, option_map, IfSome, length}
 use Rattle.std.specs.List.{AllByRecursion}
 use Rattle.std.proofs.lemmas.Bool.Decides.{Decides-eqb}
@@ -10,8 +10,8 @@ use Rattle.attr_intern.specs.declared.table.Shared.{Shared}
 use Rattle.attr_intern.specs.Table.{Table, shared_at, uses_at, attrs_at, times, IsOf, CameFrom, TakesBack, Hands}
 use Rattle.adj_rib_out.specs.declared.look.Look.{Look}
 use Rattle.adj_rib_out.specs.Packed.{Packed}
-use Rattle.adj_rib_out.specs.Uses.{Moves, Trades}
-use Rattle.adj_rib_out.proofs.Kept.{times-append, all-append, all-front, all-back, some_none}
+use Rattle.adj_rib_out.specs.Uses.{Moves}
+use Rattle.adj_rib_out.proofs.Kept.{times-append, all-back, some_none}
 
 pub times-cons : (number : ℕ) (one : Numbered) (rest : List Numbered) → times number (one ∷ rest) ≡ cond (one.number == number) 1 0 + times number rest
 times-cons number one rest = sum_by-cons (λ (one : Numbered). cond (one.number == number) 1 0) one rest

@@ -1,12 +1,11 @@
 -- Which looks make a message (RFC 4271 sections 4.3 and 9.2): of one kind, one family and the same attributes, while it fits.
-use Rattle.std.specs.Prelude.{◌≡◌, ℕ, ◌+◌, ◌≤◌, ◌==◌, nat_le, Bool, true, false, not, ◌&&◌, ◌||◌, if◌then◌else◌, List, [], ◌∷◌, ◌++◌, length, map, fold, find, Option, None, Some, option_map}
+use Rattle.std.specs.Prelude.{◌≡◌, ℕ, ◌+◌, ◌≤◌, nat_le, Bool, true, false, not, ◌&&◌, ◌||◌, if◌then◌else◌, List, [], ◌∷◌, ◌++◌, length, map, fold, find, Option, None, Some, option_map}
 use Rattle.std.specs.List.{AllByRecursion, filter}
 use Rattle.std.specs.Ordering.{is_lt}
 use Rattle.net_base.specs.declared.addr.Family.{Family}
 use Rattle.net_base.specs.declared.addr.Family.TheVariants.{V4, V6}
 use Rattle.net_base.specs.declared.prefix.Prefix.{Prefix}
 use Rattle.net_base.specs.Order.{prefix_cmp, same_family}
-use Rattle.net_base.specs.PrefixSet.{is_in}
 use Rattle.bgp_wire.specs.declared.open.Encoding.{Encoding}
 use Rattle.attr_model.specs.Numbered.{Numbered}
 use Rattle.attr_codec.specs.Prefixes.{prefixes_bytes}

@@ -162,11 +162,7 @@ fn settle(
 
 /// Handles one look: it joins the message and is told, or it is as told and leaves the queue, or it stays. The reference that isn't
 /// kept comes back.
-fn settle_look(
-    out: &mut SessionOut,
-    packing: &mut Option<Packing>,
-    look: Look,
-) -> Option<AttrRef>
+fn settle_look(out: &mut SessionOut, packing: &mut Option<Packing>, look: Look) -> Option<AttrRef>
     requires queued { is_queued out.old look.prefix ≡ true }
     requires room { IfSome packing.old (λ packed. 0 < packed.room) }
     ensures message { message_in packing.new ≡ with_look out.old (message_in packing.old) look }

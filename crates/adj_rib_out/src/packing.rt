@@ -103,7 +103,9 @@ impl Packing {
         ensures { result ≡ built_of self.message }
     {
         let Packing {
-            wanted, prefixes, ..
+            wanted,
+            prefixes,
+            ..
         } = self;
         let prefixes = Items::from_vec(prefixes);
         match wanted {

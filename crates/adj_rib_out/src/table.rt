@@ -12,8 +12,8 @@ ghost use Rattle.adj_rib_out.specs.Steps.{IsSame, Queues};
 ghost use Rattle.adj_rib_out.specs.Tells.{Tells, FitsIn};
 ghost use Rattle.adj_rib_out.specs.Queue.{IsNth, is_above};
 
-use crate::look::{Built, LookList};
 use crate::building;
+use crate::look::{Built, LookList};
 use crate::session::SessionOut;
 use attr_intern::AttrTable;
 use attr_model::AttrRef;

@@ -1,5 +1,5 @@
-use Rattle.std.proofs.Common.{◌≡◌, ℕ, Option, Some, None, [], refl, sym, ap, ◌∙◌, subst, arith}
-use Rattle.std.specs.Prelude.{option_map, find}
+use Rattle.std.proofs.Common.{Option, Some, [], sym, ap, ◌∙◌, subst, arith}
+use Rattle.std.specs.Prelude.{option_map}
 use Rattle.attr_model.specs.Numbered.{Numbered}
 use Rattle.attr_intern.specs.Table.{IsOf, Hands}
 use Rattle.adj_rib_out.specs.Rows.{one_or_none}

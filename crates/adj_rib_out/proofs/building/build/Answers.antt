@@ -1,4 +1,4 @@
-use Rattle.std.proofs.Common.{◌≡◌, ℕ, ◌++◌, Bool, List, Option, sym, ap, ◌∙◌, subst}
+use Rattle.std.proofs.Common.{◌≡◌, ◌++◌, Bool, List, Option, sym, ap, ◌∙◌, subst}
 use Rattle.std.specs.Prelude.{fold, find, option_map}
 use Rattle.std.specs.List.{AllByRecursion}
 use Rattle.bgp_wire.specs.declared.open.Encoding.{Encoding}
@@ -58,8 +58,8 @@ returns-in-Ok-clause-moves c =
     let before = kept_of c.args.out.now ++ wanted_in c.args.looks in
     subst (λ used. Moves c.args.table.now c.finish.new.table before (kept_of c.finish.new.out ++ used)) (sym used)
     (hands_moves c.args.table.now c.begin.new.table c.finish.new.table ones before (kept_of c.finish.new.out)
-     (ones_of c.args.table.now (kept_of c.args.out.now) (has_news c.args.out.now) c.args.enc c.args.looks message (c.in-Ok.ensures.message ∙ ap (λ looks. option_map (begun c.args.enc) (find (has_news c.args.out.now) looks)) c.as_slice.ensures) c.requires.came)
-     c.in-Ok.ensures.hands c.finish.ensures.less c.finish.ensures.moves)
+    (ones_of c.args.table.now (kept_of c.args.out.now) (has_news c.args.out.now) c.args.enc c.args.looks message (c.in-Ok.ensures.message ∙ ap (λ looks. option_map (begun c.args.enc) (find (has_news c.args.out.now) looks)) c.as_slice.ensures) c.requires.came)
+    c.in-Ok.ensures.hands c.finish.ensures.less c.finish.ensures.moves)
 
 pub returns-in-Ok-clause-each : goal.returns-in-Ok-clause-each
 returns-in-Ok-clause-each c =
@@ -69,7 +69,7 @@ returns-in-Ok-clause-each c =
     ap used_by c.finish.ensures.built ∙ used_is (fold (with_look c.args.out.now) message c.args.looks) ∙ ap one_or_none (wanted_fold c.args.out.now message c.args.looks) in
     subst (λ used. AllByRecursion (IsOf c.args.table.now) (kept_of c.finish.new.out ++ used)) (sym used)
     (all-append (IsOf c.args.table.now) (kept_of c.finish.new.out) ones (c.finish.ensures.each c.args.table.now c.requires.came.each)
-     (ones_of c.args.table.now (kept_of c.args.out.now) (has_news c.args.out.now) c.args.enc c.args.looks message (c.in-Ok.ensures.message ∙ ap (λ looks. option_map (begun c.args.enc) (find (has_news c.args.out.now) looks)) c.as_slice.ensures) c.requires.came))
+    (ones_of c.args.table.now (kept_of c.args.out.now) (has_news c.args.out.now) c.args.enc c.args.looks message (c.in-Ok.ensures.message ∙ ap (λ looks. option_map (begun c.args.enc) (find (has_news c.args.out.now) looks)) c.as_slice.ensures) c.requires.came))
 
 pub returns-in-Err-clause-back : goal.returns-in-Err-clause-back
 returns-in-Err-clause-back c =

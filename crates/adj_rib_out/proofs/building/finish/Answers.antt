@@ -1,11 +1,11 @@
-use Rattle.std.proofs.Common.{◌≡◌, ℕ, ◌<◌, ◌≤◌, ◌++◌, ◌∷◌, [], length, List, Option, Some, None, sym, ap, ◌∙◌, subst, arith}
-use Rattle.std.specs.Prelude.{fold, option_map}
+use Rattle.std.proofs.Common.{ℕ, ◌<◌, ◌≤◌, ◌++◌, ◌∷◌, [], length, List, Some, sym, ap, ◌∙◌, subst}
+use Rattle.std.specs.Prelude.{option_map}
 use Rattle.std.specs.List.{AllByRecursion}
 use Rattle.std.proofs.lemmas.List.{append-nil}
 use Rattle.attr_intern.specs.Table.{Table, IsOf, times}
-use Rattle.adj_rib_out.specs.Out.{Out, kept_of}
+use Rattle.adj_rib_out.specs.Out.{kept_of}
 use Rattle.adj_rib_out.specs.Uses.{Moves}
-use Rattle.adj_rib_out.specs.Message.{Message, built_of}
+use Rattle.adj_rib_out.specs.Message.{built_of}
 use Rattle.adj_rib_out.specs.Looks.{wanted_in}
 use Rattle.adj_rib_out.specs.Tells.{Tells}
 use Rattle.adj_rib_out.proofs.Messages.{capped_is}
@@ -21,12 +21,12 @@ returns-in-Some-clause-tells c =
     let size = c.size.ensures ∙ capped_is _ settles.fits in
     subst (λ message. Tells message c.args.looks old c.send.new.self) settles.rule
     (subst (λ new. Tells (Some c.in-Some.packing.message) c.args.looks old new) (sym c.send.ensures)
-     (record {
-       told = settles.told;
-       queued = settles.queued;
-       again = settles.again;
-       flight = ap (λ flight. flight ++ c.size.result ∷ []) settles.flight ∙ ap (λ n. old.flight ++ n ∷ []) size;
-     }))
+    (record {
+      told = settles.told;
+      queued = settles.queued;
+      again = settles.again;
+      flight = ap (λ flight. flight ++ c.size.result ∷ []) settles.flight ∙ ap (λ n. old.flight ++ n ∷ []) size;
+    }))
 
 pub returns-in-Some-clause-built : goal.returns-in-Some-clause-built
 returns-in-Some-clause-built c = ap Some c.into_built.ensures ∙ ap (option_map built_of) c.in-Some.ensures.settles.rule

@@ -1,5 +1,4 @@
-use Rattle.std.proofs.Common.{◌≡◌, ℕ, ◌+◌, ◌<◌, ◌≤◌, ◌++◌, ◌∷◌, [], List, Option, Some, None, length, sym, ap, ◌∙◌, subst, arith}
-use Rattle.std.specs.Prelude.{IfSome}
+use Rattle.std.proofs.Common.{◌≡◌, ℕ, ◌+◌, ◌≤◌, ◌++◌, [], List, length, ap, ◌∙◌, subst, arith}
 use Rattle.std.specs.List.{AllByRecursion}
 use Rattle.std.specs.Vec.Iter.{into_iter_items}
 use Rattle.std.proofs.lemmas.List.{append-nil}
@@ -7,13 +6,13 @@ use Rattle.attr_model.specs.Numbered.{Numbered}
 use Rattle.attr_intern.specs.Table.{Table, IsOf, times}
 use Rattle.adj_rib_out.specs.declared.look.Look.{Look}
 use Rattle.adj_rib_out.specs.Rows.{one_or_none}
-use Rattle.adj_rib_out.specs.Out.{Out, kept_of, is_queued}
+use Rattle.adj_rib_out.specs.Out.{kept_of}
 use Rattle.adj_rib_out.specs.Uses.{Moves}
-use Rattle.adj_rib_out.specs.Packed.{Packed, message_in}
+use Rattle.adj_rib_out.specs.Packed.{message_in}
 use Rattle.adj_rib_out.specs.Looks.{wanted_in}
 use Rattle.adj_rib_out.proofs.Kept.{times-append, all-append, all-front, all-back}
-use Rattle.adj_rib_out.proofs.Uses.{nothing_left, back_of, moves_more, split_more, moves_same, room_first, room_more}
-use Rattle.adj_rib_out.proofs.Settling.{Settling, IsAhead, step, settled, settling_start}
+use Rattle.adj_rib_out.proofs.Uses.{nothing_left, back_of, moves_more, split_more, room_first, room_more}
+use Rattle.adj_rib_out.proofs.Settling.{IsAhead, step, settled}
 use Rattle.adj_rib_out.proofs.building.settle.Goals as goal
 
 -- what is held with a look is what is held behind it, and what goes back
@@ -58,11 +57,10 @@ loop-look-preserved c =
     let split : left ≡ w ++ rest = ap wanted_in first in
     let trade = traded mid new w back rest left split c.settle_look-back.ensures.uses in
     let given : (table : Table) → AllByRecursion (IsOf table) (kept_of c.args.out.now ++ wanted_in c.args.looks) → AllByRecursion (IsOf table) w =
-    λ table all. all-front (IsOf table) w rest (subst (AllByRecursion (IsOf table)) split (all-back (IsOf table) mid left (c.loop-look.invariant.2 table all))) in
-    (
+    λ table all. all-front (IsOf table) w rest (subst (AllByRecursion (IsOf table)) split (all-back (IsOf table) mid left (c.loop-look.invariant.2 table all))) in (
       step c.args.looks c.args.out.now c.loop-look.out c.settle_look-back.new.out (message_in c.args.packing) (message_in c.loop-look.packing) (message_in c.settle_look-back.new.packing) c.in-Some.look looks more t0 first
-      c.settle_look-back.ensures.message c.loop-look.invariant.0 c.requires.wanted (given t0 c.requires.came.each)
-      c.settle_look-back.ensures.as_told c.settle_look-back.ensures.stays c.settle_look-back.ensures.told,
+          c.settle_look-back.ensures.message c.loop-look.invariant.0 c.requires.wanted (given t0 c.requires.came.each)
+          c.settle_look-back.ensures.as_told c.settle_look-back.ensures.stays c.settle_look-back.ensures.told,
       moves_more t0 c.loop-look.table c.give_back.new.table (kept_of c.args.out.now ++ wanted_in c.args.looks) (mid ++ left) back (new ++ rest) trade c.loop-look.invariant.1 c.give_back.ensures,
       (λ table all. all-append (IsOf table) new rest
           (c.settle_look-back.ensures.each table (all-front (IsOf table) mid left (c.loop-look.invariant.2 table all)) (given table all))

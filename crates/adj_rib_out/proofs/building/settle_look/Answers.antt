@@ -1,9 +1,9 @@
-use Rattle.std.proofs.Common.{◌≡◌, ℕ, ◌+◌, Bool, true, false, ◌&&◌, ◌||◌, if◌then◌else◌, Option, refl, sym, ap, ◌∙◌, subst, true≢false}
+use Rattle.std.proofs.Common.{◌+◌, true, false, if◌then◌else◌, refl, sym, ap, ◌∙◌, subst, true≢false}
 use Rattle.std.specs.Prelude.{option_map}
 use Rattle.std.specs.List.{AllByRecursion}
 use Rattle.attr_intern.specs.Table.{IsOf, times}
 use Rattle.adj_rib_out.specs.Rows.{one_or_none}
-use Rattle.adj_rib_out.specs.Message.{Message, has_news, joined, with_prefix}
+use Rattle.adj_rib_out.specs.Message.{joined, with_prefix}
 use Rattle.adj_rib_out.specs.Packed.{message_in}
 use Rattle.adj_rib_out.proofs.Uses.{room_less}
 use Rattle.adj_rib_out.proofs.Settling.{looked, left_false}

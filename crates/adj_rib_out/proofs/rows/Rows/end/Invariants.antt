@@ -1,4 +1,3 @@
-use Rattle.std.proofs.Common.{◌≡◌}
 use Rattle.std.specs.List.{AllByRecursion}
 use Rattle.attr_intern.specs.Table.{IsOf}
 use Rattle.adj_rib_out.specs.Rows.{kept_in}

@@ -4,8 +4,8 @@ use Rattle.net_base.specs.contracts.prefix.PrefixOrd.TheImpl.{cmp-value as deriv
 use Rattle.net_base.proofs.Order.{derived_prefix_cmp}
 use Rattle.adj_rib_out.specs.declared.rows.Row.{Row}
 use Rattle.adj_rib_out.specs.Rows.{is_same, has_row, told_of, told_in, again_of, again_in, kept_in, one_or_none, row_at}
-use Rattle.adj_rib_out.proofs.Kept.{held, held-insert}
-use Rattle.adj_rib_out.proofs.Puts.{Puts, puts, row_by, row_is, asked, unasked, or_is, none_is}
+use Rattle.adj_rib_out.proofs.Kept.{held-insert}
+use Rattle.adj_rib_out.proofs.Puts.{puts, row_by, row_is, asked, unasked, or_is, none_is}
 use Rattle.adj_rib_out.proofs.rows.Rows.keep.Goals as goal
 
 abbrev blank : Row

@@ -1,4 +1,4 @@
-use Rattle.std.proofs.Common.{◌≡◌, sym, ap, ◌∙◌}
+use Rattle.std.proofs.Common.{ap, ◌∙◌}
 use Rattle.net_base.specs.contracts.prefix.PrefixOrd.TheImpl.{cmp-value as derived}
 use Rattle.net_base.proofs.Order.{derived_prefix_cmp}
 use Rattle.adj_rib_out.specs.Rows.{told_of, told_in}

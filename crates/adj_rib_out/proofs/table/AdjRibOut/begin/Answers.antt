@@ -1,10 +1,10 @@
-use Rattle.std.proofs.Common.{◌≡◌, ◌≢◌, ℕ, ◌<◌, ◌≤◌, ◌++◌, ◌&&◌, cond, true, false, [], List, Option, Some, None, length, is_some, refl, sym, ap, ◌∙◌, subst, arith}
+use Rattle.std.proofs.Common.{◌≡◌, ℕ, cond, Some, sym, ap, ◌∙◌, subst}
 use Rattle.std.specs.BTreeMap.{is_at}
-use Rattle.std.specs.Ordering.{nat_cmp, is_lt}
-use Rattle.adj_rib_out.specs.Out.{Out, Outs, nothing, out_at, kept, kept_of, told_at, is_queued, is_again}
-use Rattle.adj_rib_out.proofs.Kept.{held-insert, held-set, held-remove, f_of}
+use Rattle.std.specs.Ordering.{nat_cmp}
+use Rattle.adj_rib_out.specs.Out.{out_at, kept, kept_of}
+use Rattle.adj_rib_out.proofs.Kept.{held-insert}
 use Rattle.adj_rib_out.proofs.Puts.{none_is}
-use Rattle.adj_rib_out.proofs.Sessions.{out_by, out_is, at_session, at_others, at_same, found_at, none_at, came_part, came_one, trades_all, trades_less, trades_none}
+use Rattle.adj_rib_out.proofs.Sessions.{out_by, at_same}
 use Rattle.adj_rib_out.proofs.table.AdjRibOut.begin.Goals as goal
 
 pub returns-clause-same : goal.returns-clause-same
@@ -13,8 +13,8 @@ returns-clause-same c =
     let new = c.insert.new.self.entries in
     subst (λ outs. (other : ℕ) → out_at new other ≡ out_at outs other) c.self.view_is
     (at_same old new c.args.session
-     (subst (λ out. (q : ℕ) → out_by new q ≡ cond (is_at (nat_cmp c.args.session) q) (Some out) (out_by old q)) c.in_ok-out.ensures c.in_ok-insert.ensures.updates.0)
-     (none_is (out_by old c.args.session) (sym c.contains_key.ensures ∙ c.if-contains_key.false)))
+    (subst (λ out. (q : ℕ) → out_by new q ≡ cond (is_at (nat_cmp c.args.session) q) (Some out) (out_by old q)) c.in_ok-out.ensures c.in_ok-insert.ensures.updates.0)
+    (none_is (out_by old c.args.session) (sym c.contains_key.ensures ∙ c.if-contains_key.false)))
 
 pub returns-clause-kept : goal.returns-clause-kept
 returns-clause-kept c =

@@ -1,20 +1,15 @@
-use Rattle.std.proofs.Common.{◌≡◌, ◌≢◌, ℕ, ◌<◌, ◌≤◌, ◌++◌, ◌&&◌, cond, true, false, [], List, Option, Some, None, length, is_some, refl, sym, ap, ◌∙◌, subst, arith}
-use Rattle.std.specs.Prelude.{OnOk, OnErr, IfOk, drop}
-use Rattle.std.specs.BTreeMap.{is_at}
-use Rattle.std.specs.Ordering.{nat_cmp, is_lt}
-use Rattle.adj_rib_out.specs.Out.{Out, Outs, nothing, out_at, kept, kept_of, told_at, is_queued, is_again}
-use Rattle.adj_rib_out.proofs.Kept.{held-insert, held-set, held-remove, f_of}
-use Rattle.adj_rib_out.proofs.Puts.{none_is}
-use Rattle.adj_rib_out.proofs.Sessions.{out_by, out_is, at_session, at_others, at_same, found_at, none_at, came_part, came_one, trades_all, trades_less, trades_none, some_out}
+use Rattle.std.proofs.Common.{◌≡◌, ◌≢◌, ℕ, ◌<◌, ◌++◌, true, [], Some, length, is_some, sym, ap, ◌∙◌, subst}
+use Rattle.std.specs.Prelude.{OnOk, OnErr, IfOk}
+use Rattle.adj_rib_out.specs.Out.{nothing, out_at, kept, is_queued}
+use Rattle.adj_rib_out.proofs.Sessions.{out_by, at_session, at_others, found_at, none_at, came_part, trades_all, trades_none, some_out}
 use Rattle.adj_rib_out.proofs.table.AdjRibOut.build.Goals as goal
 use Rattle.std.specs.List.{AllByRecursion, list_any}
 use Rattle.std.specs.Prelude.{option_map}
-use Rattle.attr_intern.specs.Table.{CameFrom, IsOf}
+use Rattle.attr_intern.specs.Table.{CameFrom}
 use Rattle.adj_rib_out.specs.Message.{has_news, message_of, built_of}
 use Rattle.adj_rib_out.specs.Looks.{wanted_in, used_by}
-use Rattle.adj_rib_out.specs.Steps.{IsSame}
-use Rattle.adj_rib_out.specs.Tells.{Tells, FitsIn}
-use Rattle.adj_rib_out.specs.Uses.{Trades, Moves}
+use Rattle.adj_rib_out.specs.Tells.{Tells}
+use Rattle.adj_rib_out.specs.Uses.{Trades}
 use Rattle.adj_rib_out.proofs.Settling.{tells_none, no_looks}
 use Rattle.adj_rib_out.proofs.Messages.{built_where_news, message_fits}
 use Rattle.adj_rib_out.proofs.Sessions.{same_is, if_ok, on_err, on_err_both, trades_kept, trades_back}
@@ -83,9 +78,9 @@ returns-clause-uses c =
     let now : out_at new c.args.session ≡ w = at_session old new c.args.session (Some w) put in
     subst (λ outs. IfOk c.build.result (λ built. Trades c.args.table.now c.build.new.table (kept outs ++ wanted_in c.args.looks) (kept new ++ used_by built))) c.self.view_is
     (trades_kept c.build.result
-     (λ built moves each. trades_all c.args.table.now c.build.new.table old new c.args.session w c.in-Some.out.now (wanted_in c.args.looks) (used_by built) found holds.0
-       (subst (λ outs. CameFrom c.args.table.now (kept outs ++ wanted_in c.args.looks)) (sym c.self.view_is) c.requires.came) moves each)
-     c.build.ensures.moves c.build.ensures.each)
+    (λ built moves each. trades_all c.args.table.now c.build.new.table old new c.args.session w c.in-Some.out.now (wanted_in c.args.looks) (used_by built) found holds.0
+    (subst (λ outs. CameFrom c.args.table.now (kept outs ++ wanted_in c.args.looks)) (sym c.self.view_is) c.requires.came) moves each)
+    c.build.ensures.moves c.build.ensures.each)
 
 pub returns-clause-others : goal.returns-clause-others
 returns-clause-others c =
@@ -123,9 +118,9 @@ returns-clause-back c =
     let now : out_at new c.args.session ≡ w = at_session old new c.args.session (Some w) put in
     subst (λ outs. OnErr c.build.result (Trades c.args.table.now c.build.new.table (kept outs ++ wanted_in c.args.looks) (kept new))) c.self.view_is
     (on_err_both c.build.result
-     (λ same moves. trades_back c.args.table.now c.build.new.table old new c.args.session w c.in-Some.out.now (wanted_in c.args.looks) found holds.0
-       (subst (λ outs. CameFrom c.args.table.now (kept outs ++ wanted_in c.args.looks)) (sym c.self.view_is) c.requires.came) same moves)
-     c.build.ensures.err c.build.ensures.back)
+    (λ same moves. trades_back c.args.table.now c.build.new.table old new c.args.session w c.in-Some.out.now (wanted_in c.args.looks) found holds.0
+    (subst (λ outs. CameFrom c.args.table.now (kept outs ++ wanted_in c.args.looks)) (sym c.self.view_is) c.requires.came) same moves)
+    c.build.ensures.err c.build.ensures.back)
 
 pub returns-in_default-clause-tells : goal.returns-in_default-clause-tells
 returns-in_default-clause-tells c =

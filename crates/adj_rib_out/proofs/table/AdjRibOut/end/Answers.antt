@@ -1,11 +1,6 @@
-use Rattle.std.proofs.Common.{◌≡◌, ◌≢◌, ℕ, ◌<◌, ◌≤◌, ◌++◌, ◌&&◌, cond, true, false, [], List, Option, Some, None, length, is_some, refl, sym, ap, ◌∙◌, subst, arith}
-use Rattle.std.specs.Prelude.{OnOk, OnErr, IfOk, drop}
-use Rattle.std.specs.BTreeMap.{is_at}
-use Rattle.std.specs.Ordering.{nat_cmp, is_lt}
-use Rattle.adj_rib_out.specs.Out.{Out, Outs, nothing, out_at, kept, kept_of, told_at, is_queued, is_again}
-use Rattle.adj_rib_out.proofs.Kept.{held-insert, held-set, held-remove, f_of}
-use Rattle.adj_rib_out.proofs.Puts.{none_is}
-use Rattle.adj_rib_out.proofs.Sessions.{out_by, out_is, at_session, at_others, at_same, found_at, none_at, came_part, came_one, trades_all, trades_less, trades_none, some_out}
+use Rattle.std.proofs.Common.{◌≡◌, ◌≢◌, ℕ, None, sym, ap, ◌∙◌, subst}
+use Rattle.adj_rib_out.specs.Out.{out_at, kept}
+use Rattle.adj_rib_out.proofs.Sessions.{at_session, at_others, came_one, trades_less, trades_none}
 use Rattle.adj_rib_out.proofs.table.AdjRibOut.end.Goals as goal
 use Rattle.attr_intern.specs.Table.{CameFrom}
 use Rattle.adj_rib_out.specs.Uses.{Trades}
@@ -26,7 +21,7 @@ returns-clause-uses c =
     let old = c.self.inside.sessions.entries in
     subst (λ outs. Trades c.args.table.now c.end.new.table (kept outs) (kept c.remove.new.self.entries)) c.self.view_is
     (trades_less c.args.table.now c.end.new.table old c.remove.new.self.entries c.args.session c.in-Some.out c.in-Some.ensures.value c.in-Some.ensures.entries
-     (subst (λ outs. CameFrom c.args.table.now (kept outs)) (sym c.self.view_is) c.requires) c.end.ensures)
+    (subst (λ outs. CameFrom c.args.table.now (kept outs)) (sym c.self.view_is) c.requires) c.end.ensures)
 
 pub returns-in_default-clause-ended : goal.returns-in_default-clause-ended
 returns-in_default-clause-ended c = at_session c.self.inside.sessions.entries c.remove.new.self.entries c.args.session None c.in_default.ensures.updates.0
