@@ -22,7 +22,6 @@ returns-clause-counts g c =
     let back : c.serve.new.world.source.now ≡ c.input-1.given.0 = search rules in
     let P : _ → Type 0 = λ input. CountsServing (g.I.Source.faults input) (g.I.Source.faults c.serve.new.world.source.now)
     (g.O.Sink.faults c.args.out.now) (g.O.Sink.faults c.serve.new.out) c.serve.result in
-    subst P c.new-world.ensures.source.1 (counts_mute c.serve.result _ _ _ _ c.serve.ensures.counts)
     let Q : _ → Type 0 = λ last. CountsServing (g.I.Source.faults c.args.input.now) (g.I.Source.faults last)
     (g.O.Sink.faults c.args.out.now) (g.O.Sink.faults c.serve.new.out) c.serve.result in
     subst Q back (subst P c.new-world.ensures.source.1 (counts_mute c.serve.result _ _ _ _ c.serve.ensures.counts))
