@@ -62,17 +62,18 @@ fn a_connection_ends_behind_half_a_message(rt: HostRuntime) -> Result<(), Fail> 
 fn messages_come_in_pieces(rt: HostRuntime) -> Result<(), Fail> {
     let mut inbox = Inbox::new(rt.alloc());
     inbox.feed(&MARKER)?;
+    assert_eq!(rt; inbox.front(), Cut::More);
     inbox.feed(&[0, 19, 4])?;
     let keepalive = Cut::Message {
         kind: 4,
         length: 19,
     };
     assert_eq!(rt; inbox.front(), keepalive);
-    inbox.feed(&MARKER)?;
-    for byte in &OPEN {
-        inbox.feed(&[*byte])?;
-    }
     inbox.pass(19);
+    inbox.feed(&MARKER)?;
+    assert_eq!(rt; inbox.front(), Cut::More);
+    inbox.feed(&OPEN[..4])?;
+    inbox.feed(&OPEN[4..])?;
     let open = Cut::Message {
         kind: 1,
         length: 45,
