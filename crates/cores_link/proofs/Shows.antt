@@ -26,14 +26,14 @@ rows_bring_nobody peers (route ∷ routes) = rows_bring_nobody peers routes
 record Keeps (u : Option ℕ) (g : ℕ) (peers : List Addr) (answer : Answer) : Type 0 where
   generation : generation_told g answer.last ≡ g
   under_way : under_way_told (fold under_way_told u answer.lines) answer.last ≡ u
-  peers : fold up_told peers answer.lines ≡ peers
+  nobody_more : fold up_told peers answer.lines ≡ peers
 
 show_keeps : (busy : Option ℕ) (g : ℕ) (up : List Addr) (c : Conf) (answer : Answer) →
     IfSome busy (λ other. answer ≡ only (line.Pending part.Reload)) →
     IfNone busy (answer ≡ record { lines = map (λ r. line.Row (row.Route r)) (network_rows c); last = line.Ok }) → Keeps busy g up answer
-show_keeps (Some other) g up c answer b i = rw b (record { generation = refl; under_way = refl; peers = refl })
+show_keeps (Some other) g up c answer b i = rw b (record { generation = refl; under_way = refl; nobody_more = refl })
 show_keeps None g up c answer b i =
-    rw i (record { generation = refl; under_way = rows_keep None (network_rows c); peers = rows_bring_nobody up (network_rows c) })
+    rw i (record { generation = refl; under_way = rows_keep None (network_rows c); nobody_more = rows_bring_nobody up (network_rows c) })
 
 -- the rows that a show answers, and what is accepted afterwards
 pub show_follows : (a : Accepted) (words : List (List ℕ)) (answer : Answer) → are_show_rib words ≡ true →
@@ -46,6 +46,6 @@ show_follows a words answer is_show rows h by =
         conf = by.conf;
         generation = by.generation ∙ sym keeps.generation;
         under_way = by.under_way ∙ sym keeps.under_way;
-        nobody = keeps.peers ∙ by.nobody;
+        nobody = keeps.nobody_more ∙ by.nobody;
       },
     )
