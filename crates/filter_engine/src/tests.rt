@@ -506,11 +506,19 @@ fn raised(alloc: Global, rules: &RuleList, context: &Context) -> Result<Option<u
         return Ok(None);
     }
     let route = route(alloc)?;
-    match decide_both::<Brand>(alloc, rules, context, &route, Blank::new(1))? {
-        (Verdict::Changed(one, _), Verdict::Changed(other, _)) if one == other => Ok(
-            one.local_pref,
-        ),
-        _ => Ok(None),
+    let (one, other) = decide_both::<Brand>(alloc, rules, context, &route, Blank::new(1))?;
+    let raised = local_pref_of(one);
+    if local_pref_of(other) != raised {
+        return Ok(None);
+    }
+    Ok(raised)
+}
+
+/// The LOCAL_PREF of a changed route.
+fn local_pref_of(verdict: Verdict) -> Option<u32> {
+    match verdict {
+        Verdict::Changed(attrs, _) => attrs.local_pref,
+        _ => None,
     }
 }
 
@@ -541,7 +549,8 @@ fn rules_for_others_are_passed_over(rt: HostRuntime) -> Result<(), Fail> {
     ];
     let rules = raises(alloc, &audiences)?;
     assert_eq!(rt; raised(alloc, &rules, &context)?, Some(105));
-    let none = raises(alloc, &audiences[2..6])?;
+    let all = audiences.as_slice();
+    let none = raises(alloc, &all[2..6])?;
     assert_eq!(rt; raised(alloc, &none, &context)?, None);
     Ok(())
 }
