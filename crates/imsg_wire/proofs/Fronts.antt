@@ -8,7 +8,7 @@ use Rattle.byteorder.specs.Endian.{little_number}
 use Rattle.byteorder.specs.Numbers.{little_from-append, little_number-reads_back}
 use Rattle.imsg_wire.specs.declared.header.Header.{Header}
 use Rattle.imsg_wire.specs.declared.raw.Raw.{Raw}
-use Rattle.imsg_wire.specs.Frame.{header_of, header_at, header_bytes, frame_bytes, frame_behind, IsFrame, More, Whole, Bad, front_by, front_of}
+use Rattle.imsg_wire.specs.Frame.{header_of, header_at, frame_header, frame_bytes, frame_behind, IsFrame, More, Whole, Bad, front_by, front_of}
 
 -- a number is the same when more bytes come
 number-append : (n at : ℕ) (bytes more : List ℕ) → at + n ≤ length bytes → little_number n (drop at (bytes ++ more)) ≡ little_number n (drop at bytes)
@@ -205,7 +205,7 @@ header_at-fed (Ok x) old more new h ok err e = ap header_at ok ∙ header_at-app
 header_at-fed (Err x) old more new h ok err e = ap header_at err ∙ e
 
 -- a header and a payload, put one behind the other, are a frame
-pub frame_put : (raw : Raw) (old header mid new : List ℕ) → header ≡ header_bytes (record { kind = raw.kind; size = 16 + length raw.payload; peer = raw.peer; pid = raw.pid }) →
+pub frame_put : (raw : Raw) (old header mid new : List ℕ) → header ≡ frame_header (record { kind = raw.kind; size = 16 + length raw.payload; peer = raw.peer; pid = raw.pid }) →
     mid ≡ old ++ header → new ≡ mid ++ raw.payload → new ≡ old ++ frame_bytes raw
 unfolding frame_bytes
 frame_put raw old header mid new h m n =

@@ -16,14 +16,14 @@ header_of bytes = record {
   pid = little_number 4 (drop 12 bytes);
 }
 
-abbrev pub header_bytes : Header → List ℕ
-header_bytes h =
+abbrev pub frame_header : Header → List ℕ
+frame_header h =
     (((little_bytes 4 h.kind ++ little_bytes 2 h.size) ++ little_bytes 2 0) ++ little_bytes 4 h.peer) ++ little_bytes 4 h.pid
 
 -- A frame as bytes.
 unfoldable pub frame_bytes : Raw → List ℕ
 frame_bytes raw =
-    header_bytes (record { kind = raw.kind; size = 16 + length raw.payload; peer = raw.peer; pid = raw.pid }) ++ raw.payload
+    frame_header (record { kind = raw.kind; size = 16 + length raw.payload; peer = raw.peer; pid = raw.pid }) ++ raw.payload
 
 -- The new bytes begin with the old ones.
 abbrev pub Keeps : List ℕ → List ℕ → Type 0

@@ -1,6 +1,6 @@
 ghost use Rattle.std.specs.Prelude.{◌≡◌, Some};
 ghost use Rattle.std.specs.Option.{ForSome};
-ghost use Rattle.imsg_wire.specs.Frame.{header_at, header_bytes};
+ghost use Rattle.imsg_wire.specs.Frame.{header_at, frame_header};
 
 use byteorder::{ByteOrder, LittleEndian};
 
@@ -26,7 +26,7 @@ pub(crate) struct Header {
 
 /// A header as bytes, with flags of 0.
 pub(crate) fn header_as_bytes(kind: u32, size: u16, peer: u32, pid: u32) -> [u8; 16]
-    ensures { result ≡ header_bytes (record { kind = kind; size = size; peer = peer; pid = pid }) }
+    ensures { result ≡ frame_header (record { kind = kind; size = size; peer = peer; pid = pid }) }
 {
     let mut bytes = [0; 16];
     LittleEndian::write_u32(&mut bytes, kind);
