@@ -1,3 +1,5 @@
+use super::SessionEvent::{Comes, Deadline, Keepalive, Open, Opened, Update};
+use super::State::{Active, Established, OpenConfirm, OpenSent};
 use super::*;
 use std::test::*;
 
@@ -54,6 +56,24 @@ fn a_peer_that_cannot_be_reached_is_tried_again_after_30_seconds(
     Ok(())
 }
 
+const NOTHING: Actions = Actions::NONE;
+
+const OPENS: Actions = Actions {
+    send_open: true,
+    ..NOTHING
+};
+
+const KEEPS: Actions = Actions {
+    keepalive: true,
+    ..NOTHING
+};
+
+const COMES_UP: Actions = Actions {
+    up: true,
+    ..NOTHING
+};
+
+// The event and its time; then the state, the hold and the keepalive deadline behind it, and what is done.
 #[test]
 fn a_session_comes_up(rt: HostRuntime) -> Result<(), Fail> {
     let mut peer = Peer {
@@ -61,82 +81,14 @@ fn a_session_comes_up(rt: HostRuntime) -> Result<(), Fail> {
         ..NEW
     };
     for (event, now, state, hold_at, keep_at, actions) in [
-        (
-            SessionEvent::Comes,
-            0,
-            State::Active,
-            None,
-            None,
-            Actions::NONE,
-        ),
-        (
-            SessionEvent::Opened,
-            0,
-            State::OpenSent,
-            Some(240),
-            None,
-            Actions {
-                send_open: true,
-                ..Actions::NONE
-            },
-        ),
-        (
-            SessionEvent::Open(90),
-            0,
-            State::OpenConfirm,
-            Some(90),
-            Some(30),
-            Actions {
-                keepalive: true,
-                ..Actions::NONE
-            },
-        ),
-        (
-            SessionEvent::Keepalive,
-            50,
-            State::Established,
-            Some(90),
-            Some(30),
-            Actions {
-                up: true,
-                ..Actions::NONE
-            },
-        ),
-        (
-            SessionEvent::Deadline,
-            89,
-            State::Established,
-            Some(90),
-            Some(119),
-            Actions {
-                keepalive: true,
-                ..Actions::NONE
-            },
-        ),
-        (
-            SessionEvent::Deadline,
-            89,
-            State::Established,
-            Some(90),
-            Some(119),
-            Actions::NONE,
-        ),
-        (
-            SessionEvent::Update,
-            89,
-            State::Established,
-            Some(179),
-            Some(119),
-            Actions::NONE,
-        ),
-        (
-            SessionEvent::Comes,
-            89,
-            State::Established,
-            Some(179),
-            Some(119),
-            Actions::NONE,
-        ),
+        (Comes, 0, Active, None, None, NOTHING),
+        (Opened, 0, OpenSent, Some(240), None, OPENS),
+        (Open(90), 0, OpenConfirm, Some(90), Some(30), KEEPS),
+        (Keepalive, 50, Established, Some(90), Some(30), COMES_UP),
+        (Deadline, 89, Established, Some(90), Some(119), KEEPS),
+        (Deadline, 89, Established, Some(90), Some(119), NOTHING),
+        (Update, 89, Established, Some(179), Some(119), NOTHING),
+        (Comes, 89, Established, Some(179), Some(119), NOTHING),
     ] {
         assert_eq!(rt; step(&mut peer, &event, now), actions);
         assert_eq!(rt;
