@@ -1,3 +1,7 @@
 mod Rows
 mod Order
+mod Routes
 mod Held
+mod Dropped
+mod Listed
+mod Lists

@@ -1,5 +1,5 @@
 -- A row stays in order of session.
-use Rattle.std.proofs.Common.{◌≡◌, ℕ, ◌<◌, ◌==◌, nat_lt, Bool, true, false, cond, List, [], ◌∷◌, Option, Some, None, is_some, refl, subst, arith}
+use Rattle.std.proofs.Common.{◌≡◌, ℕ, ◌<◌, ◌==◌, nat_lt, Bool, true, false, cond, not, List, [], ◌∷◌, Option, Some, None, is_some, refl, subst, arith}
 use Rattle.std.specs.List.{AllByRecursion}
 use Rattle.std.proofs.lemmas.Bool.{eqb-true, eqb-false, ltb-true, ltb-false}
 use Rattle.attr_model.specs.Numbered.{Numbered}
@@ -18,16 +18,16 @@ above_without : (low session : ℕ) (row : List Entry) → AllAbove low row → 
 above_without low session [] all = tt
 above_without low session (entry ∷ rest) all = go (above_without low session rest all.1) (entry.session == session)
   where
-    go : AllAbove low (without session rest) → (b : Bool) → AllAbove low (cond b rest (entry ∷ without session rest))
-    go rec true = all.1
+    go : AllAbove low (without session rest) → (b : Bool) → AllAbove low (cond (not b) (entry ∷ without session rest) (without session rest))
+    go rec true = rec
     go rec false = (all.0, rec)
 
 pub in_order_without : (session : ℕ) (row : List Entry) → IsInOrder row → IsInOrder (without session row)
 in_order_without session [] order = tt
 in_order_without session (entry ∷ rest) order = go (in_order_without session rest order.1) (entry.session == session)
   where
-    go : IsInOrder (without session rest) → (b : Bool) → IsInOrder (cond b rest (entry ∷ without session rest))
-    go rec true = order.1
+    go : IsInOrder (without session rest) → (b : Bool) → IsInOrder (cond (not b) (entry ∷ without session rest) (without session rest))
+    go rec true = rec
     go rec false = (above_without entry.session session rest order.0, rec)
 
 above_replaced : (low : ℕ) (route : Entry) (row : List Entry) → AllAbove low row → AllAbove low (replaced route row)

@@ -1,12 +1,12 @@
 -- What the place of a session's route says of its row.
-use Rattle.std.proofs.Common.{◌≡◌, ℕ, suc, ◌+◌, ◌<◌, ◌≤◌, ◌==◌, nat_lt, Bool, true, false, cond, not, List, [], ◌∷◌, ◌++◌, length, Option, Some, None, is_some, take, drop, refl, sym, ap, ◌∙◌, arith}
+use Rattle.std.proofs.Common.{◌≡◌, ℕ, suc, ◌+◌, ◌<◌, ◌≤◌, ◌==◌, nat_lt, Bool, true, false, cond, not, List, [], ◌∷◌, ◌++◌, length, Option, Some, None, is_some, take, drop, refl, sym, ap, subst, ◌∙◌, arith}
 use Rattle.std.specs.Prelude.{slice_index_or, slice_set, position, unwrap_or}
-use Rattle.std.specs.List.{position_or_len}
-use Rattle.std.proofs.lemmas.Bool.{ltb-false}
+use Rattle.std.specs.List.{position_or_len, AllByRecursion}
+use Rattle.std.proofs.lemmas.Bool.{ltb-false, eqb-true}
 use Rattle.std.proofs.lemmas.List.Sums.{prefix_len-le-length}
 use Rattle.attr_model.specs.Numbered.{Numbered}
 use Rattle.adj_rib_in.specs.declared.row.Entry.{Entry}
-use Rattle.adj_rib_in.specs.Row.{attrs_of, replaced, inserted, put, without}
+use Rattle.adj_rib_in.specs.Row.{attrs_of, replaced, inserted, put, without, IsInOrder}
 
 abbrev pub place_of : ℕ → List Entry → ℕ
 place_of session row = position_or_len (λ entry. entry.session == session) row
@@ -62,20 +62,28 @@ inserted_at route (entry ∷ rest) = go (inserted_at route rest) (nat_lt route.s
     go rec true = refl
     go rec false = ap (λ row. entry ∷ row) rec ∙ ap (λ n. take n (entry ∷ rest) ++ route ∷ drop n (entry ∷ rest)) (sym (one_more (place_for route.session rest)))
 
-pub without_at : (session : ℕ) (row : List Entry) → without session row ≡ take (place_of session row) row ++ drop (suc (place_of session row)) row
-without_at session [] = refl
-without_at session (entry ∷ rest) = go (without_at session rest) (entry.session == session)
+without_above : (session : ℕ) (row : List Entry) → AllByRecursion (λ entry. session < entry.session) row → without session row ≡ row
+without_above session [] all = refl
+without_above session (entry ∷ rest) all = go (without_above session rest all.1) (entry.session == session) refl
   where
-    go : without session rest ≡ take (place_of session rest) rest ++ drop (suc (place_of session rest)) rest → (b : Bool) → cond b rest (entry ∷ without session rest)
+    go : without session rest ≡ rest → (b : Bool) → (entry.session == session) ≡ b → cond (not b) (entry ∷ without session rest) (without session rest) ≡ entry ∷ rest
+    go rec true e = absurd (omega (arith, all.0, eqb-true _ _ e))
+    go rec false e = ap (λ row. entry ∷ row) rec
+
+pub without_at : (session : ℕ) (row : List Entry) → IsInOrder row → without session row ≡ take (place_of session row) row ++ drop (suc (place_of session row)) row
+without_at session [] order = refl
+without_at session (entry ∷ rest) order = go (without_at session rest order.1) (entry.session == session) refl
+  where
+    go : without session rest ≡ take (place_of session rest) rest ++ drop (suc (place_of session rest)) rest → (b : Bool) → (entry.session == session) ≡ b → cond (not b) (entry ∷ without session rest) (without session rest)
         ≡ take (cond (not b) (1 + place_of session rest) 0) (entry ∷ rest) ++ drop (suc (cond (not b) (1 + place_of session rest) 0)) (entry ∷ rest)
-    go rec true = refl
-    go rec false = ap (λ row. entry ∷ row) rec ∙ ap (λ n. take n (entry ∷ rest) ++ drop (suc n) (entry ∷ rest)) (sym (one_more (place_of session rest)))
+    go rec true e = without_above session rest (subst (λ n. AllByRecursion (λ other. n < other.session) rest) (eqb-true _ _ e) order.0)
+    go rec false e = ap (λ row. entry ∷ row) rec ∙ ap (λ n. take n (entry ∷ rest) ++ drop (suc n) (entry ∷ rest)) (sym (one_more (place_of session rest)))
 
 pub without_none : (session : ℕ) (row : List Entry) → attrs_of session row ≡ None → without session row ≡ row
 without_none session [] none = refl
 without_none session (entry ∷ rest) none = go (λ nothing. without_none session rest nothing) (entry.session == session) none
   where
-    go : (attrs_of session rest ≡ None → without session rest ≡ rest) → (b : Bool) → cond b (Some entry.attrs) (attrs_of session rest) ≡ None → cond b rest (entry ∷ without session rest) ≡ entry ∷ rest
+    go : (attrs_of session rest ≡ None → without session rest ≡ rest) → (b : Bool) → cond b (Some entry.attrs) (attrs_of session rest) ≡ None → cond (not b) (entry ∷ without session rest) (without session rest) ≡ entry ∷ rest
     go rec true none = absurd (some none)
       where
         some : Some entry.attrs ≡ None → ⊥

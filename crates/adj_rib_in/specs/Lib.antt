@@ -1,2 +1,3 @@
 pub mod Row
 pub mod Held
+pub mod Listed

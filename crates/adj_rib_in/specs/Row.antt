@@ -1,5 +1,5 @@
 -- The routes to one prefix, one of a session at most, in order of session.
-use Rattle.std.specs.Prelude.{ℕ, ◌<◌, ◌==◌, nat_lt, cond, List, [], ◌∷◌, Option, Some, None, is_some}
+use Rattle.std.specs.Prelude.{ℕ, ◌<◌, ◌==◌, nat_lt, cond, not, filter, List, [], ◌∷◌, Option, Some, None, is_some}
 use Rattle.std.specs.List.{AllByRecursion}
 use Rattle.attr_model.specs.Numbered.{Numbered}
 use Rattle.adj_rib_in.specs.declared.row.Entry.{Entry}
@@ -30,5 +30,4 @@ put route row = cond (is_some (attrs_of route.session row)) (replaced route row)
 
 -- the row without the route of a session
 abbrev pub without : ℕ → List Entry → List Entry
-without session [] = []
-without session (entry ∷ rest) = cond (entry.session == session) rest (entry ∷ without session rest)
+without session row = filter (λ entry. not (entry.session == session)) row

@@ -1,28 +1,39 @@
-ghost use Rattle.std.specs.Prelude.{◌≡◌, [], None, IfOk, IfErr, OnOk, OnErr};
-ghost use Rattle.std.specs.Map.{lookup};
-ghost use Rattle.adj_rib_in.specs.Row.{attrs_of, put, without, IsInOrder};
+ghost use Rattle.std.specs.Prelude.{◌≡◌, [], map, IfOk, IfErr, OnOk, OnErr};
+ghost use Rattle.std.specs.List.Sorted.{IsStrictlySortedBy};
+ghost use Rattle.std.specs.Map.{keys_of, lookup};
+ghost use Rattle.net_base.specs.declared.prefix.Prefix.{Prefix};
+ghost use Rattle.net_base.specs.Order.{prefix_cmp};
+ghost use Rattle.adj_rib_in.specs.Row.{put, without, IsInOrder};
 ghost use Rattle.adj_rib_in.specs.Held.{held_at, is_same, route_at, IsSame, SetsRow};
 
-use crate::row::{Entry, Row};
+use crate::by_prefix::RowsByPrefix;
+use crate::by_session::PrefixesBySession;
+use crate::row::Entry;
 use attr_model::AttrRef;
-use net_base::{NoMemory, Prefix};
+use net_base::{Items, NoMemory, Prefix};
 use std::alloc::Global;
-use std::collections::BTreeMap;
 use std::marker::Model;
+
+/// The routes that a session held, by prefix.
+pub type DroppedList = Items<(Prefix, AttrRef)>;
 
 /// The routes that sessions hold, which contracts see as the list of the rows by prefix.
 #[derive(Drop)]
 pub struct AdjRibIn {
     alloc: Global,
-    rows: BTreeMap<Prefix, Row>,
+    rows: RowsByPrefix,
+    prefixes: PrefixesBySession,
 }
 
 impl Model for AdjRibIn {
     ghost use Rattle.adj_rib_in.specs.Held.{Held};
+    ghost use Rattle.adj_rib_in.specs.Listed.{ListsAll};
 
     ghost Value = { Held };
 
-    ghost view = { λ table. table.rows.entries };
+    ghost view = { λ table. table.rows };
+
+    ghost invariant = { λ table. ListsAll table.prefixes table.rows };
 }
 
 impl AdjRibIn {
@@ -32,7 +43,8 @@ impl AdjRibIn {
     {
         Ok(AdjRibIn {
             alloc,
-            rows: BTreeMap::new(alloc),
+            rows: RowsByPrefix::new(alloc),
+            prefixes: PrefixesBySession::new(alloc),
         })
     }
 
@@ -41,10 +53,7 @@ impl AdjRibIn {
         ensures row { result.now ≡ held_at self.now prefix }
         ensures in_order { IsInOrder result.now }
     {
-        match self.rows.get(&prefix) {
-            Some(row) => row.as_slice(),
-            None => &[],
-        }
+        self.rows.of(prefix)
     }
 
     /// Holds a route in the place of the one that the session had for the prefix, whose reference comes back. Where
@@ -60,11 +69,10 @@ impl AdjRibIn {
         ensures same { OnErr result (IsSame self.old self.new) }
         ensures back { IfErr result (λ one. one ≡ attrs) }
     {
-        let entry = Entry { session, attrs };
-        match self.rows.get_mut(&prefix) {
-            Some(row) => row.put(entry),
-            None => self.begin(prefix, entry),
-        }
+        let Ok(()) = self.prefixes.add(session, prefix) else {
+            return Err(attrs);
+        };
+        self.rows.set(prefix, session, attrs)
     }
 
     /// Takes the route of a session to a prefix away, and hands its reference out.
@@ -72,28 +80,22 @@ impl AdjRibIn {
         ensures row { SetsRow self.old self.new prefix (without session (held_at self.old prefix)) }
         ensures value { result ≡ route_at self.old prefix session }
     {
-        let row = self.rows.get_mut(&prefix)?;
-        let old = row.take(session);
-        if row.is_empty() {
-            self.rows.remove(&prefix);
-        }
+        let old = self.rows.unset(prefix, session);
+        self.prefixes.remove(session, prefix);
         old
     }
 
-    /// Holds the first route to a prefix.
-    fn begin(&mut self, prefix: Prefix, entry: Entry) -> Result<Option<AttrRef>, AttrRef>
-        requires { lookup (is_same prefix) self.old ≡ None }
-        ensures row { OnOk result (SetsRow self.old self.new prefix (put entry [])) }
-        ensures old { IfOk result (λ old. old ≡ None) }
-        ensures same { OnErr result (IsSame self.old self.new) }
-        ensures back { IfErr result (λ one. one ≡ entry.attrs) }
+    /// Takes all routes of a session away, and hands out each prefix with the reference, by prefix. It costs as much as
+    /// the routes of that session. All memory is taken first; where it is refused, the table is as it was.
+    pub fn drop_session(&mut self, session: u32) -> Result<DroppedList, NoMemory>
+        ensures rows { OnOk result ((prefix : Prefix) → held_at self.new prefix ≡ without session (held_at self.old prefix)) }
+        ensures dropped { IfOk result (λ dropped. (prefix : Prefix) → lookup (is_same prefix) dropped ≡ route_at self.old prefix session) }
+        ensures by_prefix { IfOk result (λ dropped. IsStrictlySortedBy prefix_cmp (keys_of dropped)) }
+        ensures same { OnErr result (self.new ≡ self.old) }
     {
-        let Ok(_) = self.rows.insert(prefix, Row::new(self.alloc)) else {
-            return Err(entry.attrs);
-        };
-        let Some(row) = self.rows.get_mut(&prefix) else {
-            return Err(entry.attrs);
-        };
-        row.put(entry)
+        let dropped = Vec::with_capacity(self.alloc, self.prefixes.count(session))?;
+        let prefixes = self.prefixes.take(session);
+        let dropped = self.rows.drop_all(session, prefixes, dropped);
+        Ok(Items::from_vec(dropped))
     }
 }

@@ -57,3 +57,26 @@ fn routes_of_two_sessions(rt: HostRuntime) -> Result<(), Fail> {
     assert_eq!(rt; sessions_of(&table, prefix), (Some(7), None));
     Ok(())
 }
+
+#[test]
+fn a_lost_session(rt: HostRuntime) -> Result<(), Fail> {
+    let one = Prefix::read("192.0.2.0/24")?;
+    let other = Prefix::read("198.51.100.0/24")?;
+    let mut table = AdjRibIn::new(rt.alloc())?;
+    for (prefix, session, number) in [(other, 7, 1), (one, 7, 2), (one, 3, 3)] {
+        let old = table.set(prefix, session, route(rt.alloc(), number)?);
+        assert_eq!(rt; old.map(number_of).ok(), Some(None));
+    }
+    assert_eq!(rt; table.drop_session(9)?.len(), 0);
+    let dropped = table.drop_session(7)?;
+    let row = |at| dropped
+        .get(at)
+        .map(|(prefix, attrs)| (*prefix, attrs.number));
+    assert_eq!(rt;
+        (row(0), row(1), row(2)),
+        (Some((one, 2)), Some((other, 1)), None)
+    );
+    assert_eq!(rt; sessions_of(&table, one), (Some(3), None));
+    assert_eq!(rt; sessions_of(&table, other), (None, None));
+    Ok(())
+}

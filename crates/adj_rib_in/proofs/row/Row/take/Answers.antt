@@ -9,13 +9,13 @@ pub invariant_of-self : goal.invariant_of-self
 invariant_of-self c =
     let row = c.self.inside.entries.items in
     let at = c.place_of-at.ensures ∙ ap (place_of c.args.session) c.as_slice.ensures.value in
-    subst IsInOrder (without_at c.args.session row ∙ ap (λ n. take n row ++ drop (suc n) row) (sym at) ∙ sym c.remove.ensures.items) (in_order_without c.args.session row c.self.invariant)
+    subst IsInOrder (without_at c.args.session row c.self.invariant ∙ ap (λ n. take n row ++ drop (suc n) row) (sym at) ∙ sym c.remove.ensures.items) (in_order_without c.args.session row c.self.invariant)
 
 pub returns-then-at-len-clause-row : goal.returns-then-at-len-clause-row
 returns-then-at-len-clause-row c =
     let row = c.self.inside.entries.items in
     let at = c.place_of-at.ensures ∙ ap (place_of c.args.session) c.as_slice.ensures.value in
-    sym (without_at c.args.session row ∙ ap (λ n. take n row ++ drop (suc n) row) (sym at) ∙ sym c.remove.ensures.items) ∙ ap (without c.args.session) c.self.view_is
+    sym (without_at c.args.session row c.self.invariant ∙ ap (λ n. take n row ++ drop (suc n) row) (sym at) ∙ sym c.remove.ensures.items) ∙ ap (without c.args.session) c.self.view_is
 
 pub returns-then-at-len-clause-value : goal.returns-then-at-len-clause-value
 returns-then-at-len-clause-value c =

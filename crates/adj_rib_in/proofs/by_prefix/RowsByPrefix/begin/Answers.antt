@@ -5,7 +5,7 @@ use Rattle.net_base.proofs.Order.{derived_prefix_cmp}
 use Rattle.adj_rib_in.specs.Row.{put}
 use Rattle.adj_rib_in.specs.Held.{SetsRow}
 use Rattle.adj_rib_in.proofs.Held.{sets_row, sets_twice, same_row, on_ok, on_err, one_row}
-use Rattle.adj_rib_in.proofs.table.AdjRibIn.begin.Goals as goal
+use Rattle.adj_rib_in.proofs.by_prefix.RowsByPrefix.begin.Goals as goal
 
 pub returns-clause-row : goal.returns-clause-row
 returns-clause-row c =
