@@ -1,8 +1,8 @@
 -- The first that none beats, by one walk, and what it says of the others.
-use Rattle.std.proofs.Common.{◌≡◌, Bool, true, false, cond, not, ◌&&◌, inl, inr, List, [], ◌∷◌, Some, None, refl, sym, ap, ◌∙◌}
+use Rattle.std.proofs.Common.{◌≡◌, Bool, true, false, cond, not, inl, inr, List, [], ◌∷◌, Some, None, refl, sym, ap, ◌∙◌}
 use Rattle.std.specs.List.{filter, fold, list_any}
 use Rattle.decision.specs.Points.{better, champion_of}
-use Rattle.decision.proofs.Lists.{In, same_answer, and_true, both_true, not_false, any_true, any_false, any_member, filter_on, filter_all, In_filter, of_filter}
+use Rattle.decision.proofs.Lists.{In, same_answer, any_true, any_member, filter_on, filter_all}
 
 -- a comparison in one number or in several in a row
 pub record IsOrder {X : Type 0} (beats : X → X → Bool) : Type 0 where
@@ -74,36 +74,18 @@ module _ {X : Type 0} (beats : X → X → Bool) (order : IsOrder beats) where
   nobody [] e x within = within
   nobody (y ∷ ys) e x within = someone y ys e
 
-  -- ---- among those of a scope
-
-  out_by : (s : X → Bool) (x : X) (xs : List X) → champion_of beats (filter s xs) ≡ None → In x xs → (b : Bool) → s x ≡ b → s x ≡ false
-  out_by s x xs none within true e = absurd (nobody (filter s xs) none x (In_filter s x xs within e))
-  out_by s x xs none within false e = e
-
-  -- nobody is in the scope where there is no champion
-  pub none_in : (s : X → Bool) (xs : List X) → champion_of beats (filter s xs) ≡ None → (x : X) → In x xs → s x ≡ false
-  none_in s xs none x within = out_by s x xs none within (s x) refl
-
-  -- so nobody goes
-  pub nobody_goes : (s : X → Bool) (xs : List X) → champion_of beats (filter s xs) ≡ None → xs ≡ filter (λ c. not (list_any (λ o. s o && (s c && beats o c)) xs)) xs
-  nobody_goes s xs none =
-      sym (filter_all (λ c. not (list_any (λ o. s o && (s c && beats o c)) xs)) xs
-      (λ c within. not_false _ (any_false (λ o. s o && (s c && beats o c)) xs (λ o there. ap (λ b. b && (s c && beats o c)) (none_in s xs none o there)))))
+  -- where there is no champion, nobody goes
+  pub nobody_goes : (xs : List X) → champion_of beats xs ≡ None → xs ≡ filter (λ c. not (list_any (λ o. beats o c) xs)) xs
+  nobody_goes xs none =
+      sym (filter_all (λ c. not (list_any (λ o. beats o c) xs)) xs (λ c within. absurd (nobody xs none c within)))
 
   -- those go that the champion beats
-  pub beaten_go : (s : X → Bool) (xs : List X) (r : X) → champion_of beats (filter s xs) ≡ Some r → filter (λ c. not (s c && beats r c)) xs ≡ filter (λ c. not (list_any (λ o. s o && (s c && beats o c)) xs)) xs
-  beaten_go s xs r is =
-      let stands = champion_stands (filter s xs) r is in
-      let there = of_filter s r xs stands.0 in
-      filter_on (λ c. not (s c && beats r c)) (λ c. not (list_any (λ o. s o && (s c && beats o c)) xs)) xs (λ c within. ap not (same_answer _ _
-      (λ e. any_true (λ o. s o && (s c && beats o c)) r xs there.0 (and_true _ _ there.1 e))
-      (λ e. by_member c stands.1 (any_member (λ o. s o && (s c && beats o c)) xs e))))
+  pub beaten_go : (xs : List X) (r : X) → champion_of beats xs ≡ Some r → filter (λ c. not (beats r c)) xs ≡ filter (λ c. not (list_any (λ o. beats o c) xs)) xs
+  beaten_go xs r is =
+      let stands = champion_stands xs r is in
+      filter_on (λ c. not (beats r c)) (λ c. not (list_any (λ o. beats o c) xs)) xs (λ c within. ap not (same_answer _ _
+      (λ e. any_true (λ o. beats o c) r xs stands.0 e)
+      (λ e. by_member c stands.1 (any_member (λ o. beats o c) xs e))))
     where
-      beaten_too : (c o : X) → beats o c ≡ true → beats o r ≡ false → beats r c ≡ true
-      beaten_too c o wins stands = order.comparable o c r wins stands
-
-      by_member : (c : X) → ((d : X) → In d (filter s xs) → beats d r ≡ false) → (o : X) × In o xs × ((s o && (s c && beats o c)) ≡ true) → (s c && beats r c) ≡ true
-      by_member c stands m =
-          let outer = both_true (s m.0) (s c && beats m.0 c) m.2 in
-          let inner = both_true (s c) (beats m.0 c) outer.1 in
-          and_true _ _ inner.0 (beaten_too c m.0 inner.1 (stands m.0 (In_filter s m.0 xs m.1 outer.0)))
+      by_member : (c : X) → ((d : X) → In d xs → beats d r ≡ false) → (o : X) × In o xs × (beats o c ≡ true) → beats r c ≡ true
+      by_member c stands m = order.comparable m.0 c r m.2 (stands m.0 m.1)

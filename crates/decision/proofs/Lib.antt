@@ -2,6 +2,6 @@ pub mod Lists
 mod Flags
 mod Champions
 mod Orders
-mod Meds
+mod LowerMeds
 pub mod Eligible
 pub mod SameMembers

@@ -72,15 +72,6 @@ module _ {X : Type 0} where
   filter_all p (x ∷ xs) each =
       ap (λ b. cond b (x ∷ filter p xs) (filter p xs)) (each x (inl refl)) ∙ ap (λ (ys : List X). x ∷ ys) (filter_all p xs (λ y within. each y (inr within)))
 
-  filter_filter_by : (p q : X → Bool) (x : X) (xs : List X) → filter q (filter p xs) ≡ filter (λ y. p y && q y) xs → (a b : Bool) → p x ≡ a → q x ≡ b → filter q (filter p (x ∷ xs)) ≡ filter (λ y. p y && q y) (x ∷ xs)
-  filter_filter_by p q x xs rest true true e f = rw (e, f) (ap (λ (ys : List X). x ∷ ys) rest)
-  filter_filter_by p q x xs rest true false e f = rw (e, f) rest
-  filter_filter_by p q x xs rest false b e f = rw e rest
-
-  pub filter_filter : (p q : X → Bool) (xs : List X) → filter q (filter p xs) ≡ filter (λ x. p x && q x) xs
-  filter_filter p q [] = refl
-  filter_filter p q (x ∷ xs) = filter_filter_by p q x xs (filter_filter p q xs) (p x) (q x) refl refl
-
   kept_behind : (p : X → Bool) (x y : X) (ys : List X) → In x (filter p ys) → (b : Bool) → p y ≡ b → In x (filter p (y ∷ ys))
   kept_behind p x y ys h true e = rw e (inr h)
   kept_behind p x y ys h false e = rw e h

@@ -1,15 +1,18 @@
 -- Each point of the choice compares by one number, or by the address of the neighbour.
-use Rattle.std.proofs.Common.{◌≡◌, ℕ, true, false, Option, Some, None, refl, arith}
+use Rattle.std.proofs.Common.{◌≡◌, ℕ, Bool, true, false, Option, Some, None, refl, arith}
 use Rattle.std.specs.Prelude.{nat_lt}
 use Rattle.std.proofs.lemmas.Bool.Decides.{nat_tests}
-use Rattle.net_base.specs.declared.addr.Family.{Family}
-use Rattle.net_base.specs.declared.addr.Family.TheVariants.{V4, V6}
+use Rattle.std.specs.Cmp.{IsStrictWeakOrder}
+use Rattle.std.specs.Ordering.{is_lt}
+use Rattle.std.proofs.lemmas.List.MinMax.{ranks_by}
 use Rattle.net_base.specs.declared.addr.Addr.{Addr}
+use Rattle.net_base.specs.Order.{addr_cmp}
+use Rattle.net_base.proofs.Order.{addr_cmp-total}
 use Rattle.decision.specs.declared.candidate.Candidate.{Candidate}
 use Rattle.decision.specs.declared.point.Point.{Point}
 use Rattle.decision.specs.declared.point.Point.TheVariants as point
 use Rattle.attr_model.specs.Path.{path_length}
-use Rattle.decision.specs.Best.{neighbour_as, local_pref_of, med_of, kind_of, peer_of, is_below, comes_first}
+use Rattle.decision.specs.Best.{local_pref_of, med_of, kind_of, peer_of, comes_first}
 use Rattle.decision.specs.Points.{beats}
 use Rattle.decision.proofs.Champions.{IsOrder}
 
@@ -34,26 +37,22 @@ by_greater f = record {
   comparable = λ x y m. greater_comparable (f x) (f y) (f m);
 }
 
-below_asymmetric : (f g : Family) (m n : ℕ) → is_below f g m n ≡ true → is_below g f n m ≡ false
-below_asymmetric V4 V4 m n e = less_asymmetric m n e
-below_asymmetric V4 V6 m n e = refl
-below_asymmetric V6 V4 m n e = absurd cc
-below_asymmetric V6 V6 m n e = less_asymmetric m n e
+-- the order of addresses is one in which any two compare
+addresses : IsStrictWeakOrder (λ (x y : Addr). is_lt (addr_cmp x y))
+addresses = ranks_by addr_cmp-total (λ (x : Addr). x)
 
-below_comparable : (f g h : Family) (m n k : ℕ) → is_below f g m n ≡ true → is_below f h m k ≡ false → is_below h g k n ≡ true
-below_comparable V4 V4 V4 m n k e d = less_comparable m n k e d
-below_comparable V4 V4 V6 m n k e d = absurd cc
-below_comparable V4 V6 V4 m n k e d = refl
-below_comparable V4 V6 V6 m n k e d = absurd cc
-below_comparable V6 V4 h m n k e d = absurd cc
-below_comparable V6 V6 V4 m n k e d = refl
-below_comparable V6 V6 V6 m n k e d = less_comparable m n k e d
+below_comparable : (x y m : Addr) → is_lt (addr_cmp x y) ≡ true → is_lt (addr_cmp x m) ≡ false → is_lt (addr_cmp m y) ≡ true
+below_comparable x y m e d = by (is_lt (addr_cmp m y)) refl
+  where
+    by : (b : Bool) → is_lt (addr_cmp m y) ≡ b → is_lt (addr_cmp m y) ≡ true
+    by true h = h
+    by false h = let no = addresses.chain x m y d h in absurd cc
 
 first_asymmetric : (x y : Option Addr) → comes_first x y ≡ true → comes_first y x ≡ false
 first_asymmetric None None e = refl
 first_asymmetric None (Some y) e = refl
 first_asymmetric (Some x) None e = absurd cc
-first_asymmetric (Some x) (Some y) e = below_asymmetric x.family y.family x.bits y.bits e
+first_asymmetric (Some x) (Some y) e = addresses.one_way x y e
 
 first_comparable : (x y m : Option Addr) → comes_first x y ≡ true → comes_first x m ≡ false → comes_first m y ≡ true
 first_comparable None None m e d = absurd cc
@@ -61,7 +60,7 @@ first_comparable None (Some y) None e d = refl
 first_comparable None (Some y) (Some m) e d = absurd cc
 first_comparable (Some x) None m e d = absurd cc
 first_comparable (Some x) (Some y) None e d = refl
-first_comparable (Some x) (Some y) (Some m) e d = below_comparable x.family y.family m.family x.bits y.bits m.bits e d
+first_comparable (Some x) (Some y) (Some m) e d = below_comparable x y m e d
 
 by_peer : IsOrder (λ (one other : Candidate). comes_first (peer_of one.from) (peer_of other.from))
 by_peer = record {
@@ -78,4 +77,3 @@ order_of point.Kind = by_less (λ c. kind_of c.from)
 order_of point.Weight = by_greater (λ c. c.attrs.attrs.weight)
 order_of point.BgpId = by_less (λ c. c.bgp_id)
 order_of point.Peer = by_peer
-order_of point.NeighbourAs = by_less neighbour_as

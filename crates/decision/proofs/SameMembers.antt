@@ -1,16 +1,18 @@
 -- The choice goes by the members of a list alone.
-use Rattle.std.proofs.Common.{◌≡◌, ◌≢◌, ◌↔◌, ℕ, ◌≤◌, Bool, true, false, not, inl, inr, List, [], ◌∷◌, Some, length, refl, sym, ap, ◌∙◌, arith}
+use Rattle.std.proofs.Common.{◌≡◌, ◌≢◌, ◌↔◌, ℕ, ◌≤◌, Bool, true, false, true≢false, not, inl, inr, List, [], ◌∷◌, Some, length, refl, sym, ap, ◌∙◌, arith}
 use Rattle.std.specs.Prelude.{slice_get, nat_lt}
 use Rattle.std.specs.List.{filter, list_any, AllByRecursion, Contains}
 use Rattle.std.proofs.lemmas.Bool.Decides.{nat_tests}
-use Rattle.net_base.specs.declared.addr.Family.{Family}
-use Rattle.net_base.specs.declared.addr.Family.TheVariants.{V4, V6}
+use Rattle.std.specs.declared.cmp.Ordering.{Ordering}
+use Rattle.std.specs.declared.cmp.Ordering.TheVariants.{Less, Equal, Greater}
+use Rattle.std.specs.Ordering.{is_eq, is_lt, ordering_reverse}
 use Rattle.net_base.specs.declared.addr.Addr.{Addr}
-use Rattle.net_base.proofs.Equal.{same_addr}
+use Rattle.net_base.specs.Order.{addr_cmp}
+use Rattle.net_base.proofs.Order.{addr_cmp-total, addr_cmp-Equal}
 use Rattle.decision.specs.declared.candidate.Origin.{Origin}
 use Rattle.decision.specs.declared.candidate.Origin.TheVariants.{Local, External, Internal}
 use Rattle.decision.specs.declared.candidate.Candidate.{Candidate}
-use Rattle.decision.specs.Best.{best_of, thinned, unbeaten, eligible_of, kind_of, peer_of, is_below, comes_first, has_lower_med_among, is_preferred, has_shorter_path, has_lower_origin, has_nearer_origin, is_heavier, has_lower_id, has_lower_peer}
+use Rattle.decision.specs.Best.{best_of, thinned, unbeaten, eligible_of, kind_of, peer_of, comes_first, has_lower_med_among, is_preferred, has_shorter_path, has_lower_origin, has_nearer_origin, is_heavier, has_lower_id, has_lower_peer}
 use Rattle.decision.specs.Members.{HaveDistinctOrigins}
 use Rattle.decision.proofs.Lists.{In, not_true, not_false, any_false, none_passes, In_filter, of_filter, In_from_Contains, Contains_from_In}
 
@@ -98,14 +100,13 @@ neither_beats beats cs one other here there =
 equal_numbers : (m n : ℕ) → nat_lt m n ≡ false → nat_lt n m ≡ false → m ≡ n
 equal_numbers m n e f = grind (arith, nat_tests)
 
-equal_by : (a b : Addr) (f g : Family) → a.family ≡ f → b.family ≡ g → is_below a.family b.family a.bits b.bits ≡ false → is_below b.family a.family b.bits a.bits ≡ false → a ≡ b
-equal_by a b V4 V4 e d one other = same_addr a b (e ∙ sym d) (equal_numbers a.bits b.bits (rw (e, d) at one) (rw (e, d) at other))
-equal_by a b V4 V6 e d one other = let no = rw (e, d) at one in absurd cc
-equal_by a b V6 V4 e d one other = let no = rw (e, d) at other in absurd cc
-equal_by a b V6 V6 e d one other = same_addr a b (e ∙ sym d) (equal_numbers a.bits b.bits (rw (e, d) at one) (rw (e, d) at other))
+equal_by : (a b : Addr) (o : Ordering) → addr_cmp a b ≡ o → is_lt (addr_cmp a b) ≡ false → is_lt (addr_cmp b a) ≡ false → a ≡ b
+equal_by a b Less e one other = absurd (true≢false (ap is_lt (sym e) ∙ one))
+equal_by a b Equal e one other = addr_cmp-Equal a b (ap is_eq e)
+equal_by a b Greater e one other = absurd (true≢false (ap is_lt (sym (addr_cmp-total.antisymm b a ∙ ap ordering_reverse e)) ∙ other))
 
 equal_peers : (a b : Addr) → comes_first (Some a) (Some b) ≡ false → comes_first (Some b) (Some a) ≡ false → a ≡ b
-equal_peers a b one other = equal_by a b a.family b.family refl refl one other
+equal_peers a b one other = equal_by a b (addr_cmp a b) refl one other
 
 -- of one kind and with one address is of one place
 one_place : (x y : Origin) → kind_of x ≡ kind_of y → comes_first (peer_of x) (peer_of y) ≡ false → comes_first (peer_of y) (peer_of x) ≡ false → x ≡ y

@@ -1,12 +1,12 @@
 -- The choice among the routes to one prefix (RFC 4271 section 9.1.2.2, with the steps of this speaker and in their order).
 use Rattle.std.specs.Prelude.{ℕ, Bool, true, false, not, ◌&&◌, ◌==◌, nat_lt, List, filter, Option, Some, None, unwrap_or, slice_get}
 use Rattle.std.specs.List.{list_any, flat_map}
+use Rattle.std.specs.Ordering.{is_lt}
 use Rattle.attr_model.specs.declared.path.Segment.{Segment}
 use Rattle.attr_model.specs.Path.{path_length}
 use Rattle.attr_model.specs.Valid.{numbers_of}
-use Rattle.net_base.specs.declared.addr.Family.{Family}
-use Rattle.net_base.specs.declared.addr.Family.TheVariants.{V4, V6}
 use Rattle.net_base.specs.declared.addr.Addr.{Addr}
+use Rattle.net_base.specs.Order.{addr_cmp}
 use Rattle.decision.specs.declared.candidate.Origin.{Origin}
 use Rattle.decision.specs.declared.candidate.Origin.TheVariants.{Local, External, Internal}
 use Rattle.decision.specs.declared.candidate.Candidate.{Candidate}
@@ -40,19 +40,12 @@ peer_of Local = None
 peer_of (External peer) = Some peer
 peer_of (Internal peer) = Some peer
 
--- IPv4 before IPv6, then the bits
-abbrev pub is_below : Family → Family → ℕ → ℕ → Bool
-is_below V4 V4 bits others = nat_lt bits others
-is_below V4 V6 bits others = true
-is_below V6 V4 bits others = false
-is_below V6 V6 bits others = nat_lt bits others
-
 -- a network before neighbours, then the least address
 abbrev pub comes_first : Option Addr → Option Addr → Bool
 comes_first None None = false
 comes_first None (Some peer) = true
 comes_first (Some peer) None = false
-comes_first (Some peer) (Some other) = is_below peer.family other.family peer.bits other.bits
+comes_first (Some peer) (Some other) = is_lt (addr_cmp peer other)
 
 -- ---- the points in which one candidate is better than another
 

@@ -1,3 +1,4 @@
 pub mod Best
 pub mod Points
+pub mod Meds
 pub mod Members

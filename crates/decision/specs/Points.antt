@@ -1,12 +1,10 @@
 -- The points of the choice by name, and what the walk over flagged candidates computes.
-use Rattle.std.specs.Prelude.{◌==◌, nat_le, nat_lt, Bool, true, false, ◌&&◌, List, [], ◌∷◌, Option, Some, None, if◌then◌else◌}
+use Rattle.std.specs.Prelude.{Bool, true, false, ◌&&◌, List, [], ◌∷◌, Option, Some, None, if◌then◌else◌}
 use Rattle.std.specs.List.{fold}
 use Rattle.decision.specs.declared.candidate.Candidate.{Candidate}
 use Rattle.decision.specs.declared.point.Point.{Point}
 use Rattle.decision.specs.declared.point.Point.TheVariants as point
-use Rattle.decision.specs.declared.thinning.Scope.{Scope}
-use Rattle.decision.specs.declared.thinning.Scope.TheVariants as scope
-use Rattle.decision.specs.Best.{neighbour_as, is_preferred, has_shorter_path, has_lower_origin, has_lower_med, has_nearer_origin, is_heavier, has_lower_id, has_lower_peer}
+use Rattle.decision.specs.Best.{is_preferred, has_shorter_path, has_lower_origin, has_lower_med, has_nearer_origin, is_heavier, has_lower_id, has_lower_peer}
 
 abbrev pub beats : Point → Candidate → Candidate → Bool
 beats point.LocalPref one other = is_preferred one other
@@ -17,21 +15,6 @@ beats point.Kind one other = has_nearer_origin one other
 beats point.Weight one other = is_heavier one other
 beats point.BgpId one other = has_lower_id one other
 beats point.Peer one other = has_lower_peer one other
-beats point.NeighbourAs one other = nat_lt (neighbour_as one) (neighbour_as other)
-
--- whether a candidate is one of those that are compared
-abbrev pub in_scope : Scope → Candidate → Bool
-in_scope scope.All candidate = true
-in_scope (scope.Neighbour asn) candidate = neighbour_as candidate == asn
-in_scope (scope.NeighbourFrom asn) candidate = nat_le asn (neighbour_as candidate)
-
--- whether the one beats the other, both being compared
-abbrev pub beats_in : Scope → Point → Candidate → Candidate → Bool
-beats_in scope point one other = in_scope scope one && (in_scope scope other && beats point one other)
-
--- whether the champion of those that are compared beats a candidate
-abbrev pub is_beaten : Scope → Point → Candidate → Candidate → Bool
-is_beaten scope point champion candidate = in_scope scope candidate && beats point champion candidate
 
 -- the entries whose flags are set
 abbrev pub picked : {X : Type 0} → List Bool → List X → List X

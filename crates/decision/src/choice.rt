@@ -4,16 +4,17 @@ ghost use Rattle.decision.specs.Best.{best_of, thinned};
 ghost use Rattle.decision.specs.Points.{picked};
 
 use crate::Candidate;
+use crate::meds::thin_by_med;
 use crate::point::Point;
-use crate::thinning::{Scope, keep_eligible, thin, thin_by_med};
+use crate::thinning::{keep_eligible, thin};
 
 /// The most candidates of one prefix: one of each of 256 neighbours, and a network.
 pub const MOST_CANDIDATES: usize = 257;
 
 /// The place of the best candidate (RFC 4271 section 9.1.2.2), or None where none is eligible. Step by step each
 /// candidate goes that another one still there beats: in LOCAL_PREF, path length, ORIGIN, MED (with the same neighbour
-/// AS, or with all where `med_always`), kind of session, weight, BGP identifier, address. It takes no memory, and a
-/// number of steps that is linear in the candidates for each neighbour AS, or at all where `med_always`.
+/// AS, or with all where `med_always`), kind of session, weight, BGP identifier, address. It takes no memory,
+/// and for n candidates a number of steps in the order of n log n, or of n where `med_always`.
 pub fn best(candidates: &[Candidate], med_always: bool) -> Option<usize>
     requires few { length candidates.now ≤ MOST_CANDIDATES }
     ensures choice { option_and_then (slice_get candidates.now) result ≡ best_of med_always candidates.now }
@@ -28,18 +29,19 @@ pub fn best(candidates: &[Candidate], med_always: bool) -> Option<usize>
 
 /// Unflags the candidates that aren't eligible, and then, step by step, those that others still flagged beat.
 fn thin_in_order(candidates: &[Candidate], left: &mut [bool], med_always: bool)
-    requires { length left.old ≡ length candidates.now }
+    requires beside { length left.old ≡ length candidates.now }
+    requires few { length candidates.now ≤ MOST_CANDIDATES }
     ensures { picked left.new candidates.now ≡ thinned med_always (picked left.old candidates.now) }
 {
     keep_eligible(candidates, left);
-    thin(candidates, left, Scope::All, Point::LocalPref);
-    thin(candidates, left, Scope::All, Point::PathLength);
-    thin(candidates, left, Scope::All, Point::Origin);
+    thin(candidates, left, Point::LocalPref);
+    thin(candidates, left, Point::PathLength);
+    thin(candidates, left, Point::Origin);
     thin_by_med(candidates, left, med_always);
-    thin(candidates, left, Scope::All, Point::Kind);
-    thin(candidates, left, Scope::All, Point::Weight);
-    thin(candidates, left, Scope::All, Point::BgpId);
-    thin(candidates, left, Scope::All, Point::Peer);
+    thin(candidates, left, Point::Kind);
+    thin(candidates, left, Point::Weight);
+    thin(candidates, left, Point::BgpId);
+    thin(candidates, left, Point::Peer);
 }
 
 /// The place of the first flag that is set.

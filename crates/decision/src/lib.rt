@@ -4,6 +4,7 @@
 mod candidate;
 mod choice;
 mod laws;
+mod meds;
 mod point;
 mod thinning;
 

@@ -2,12 +2,12 @@
 
 ghost use Rattle.std.specs.Prelude.{◌≡◌};
 ghost use Rattle.attr_model.specs.Valid.{numbers_of};
-ghost use Rattle.decision.specs.Best.{first_number, neighbour_as, local_pref_of, med_of, kind_of, comes_first, is_below, peer_of};
+ghost use Rattle.decision.specs.Best.{first_number, neighbour_as, local_pref_of, med_of, kind_of, comes_first, peer_of};
 ghost use Rattle.decision.specs.Points.{beats};
 
 use crate::{Candidate, Origin};
 use attr_model::Segment;
-use net_base::{Addr, Family};
+use net_base::Addr;
 
 /// A point in which one candidate may be better than another.
 #[derive(Clone, Copy, Debug, PartialEq, Eq)]
@@ -20,8 +20,6 @@ pub(crate) enum Point {
     Weight,
     BgpId,
     Peer,
-    /// No step of the choice: a lower neighbour AS comes first.
-    NeighbourAs,
 }
 
 /// Whether the first candidate is better than the second in this point.
@@ -37,7 +35,6 @@ pub(crate) fn beats(point: Point, one: &Candidate, other: &Candidate) -> bool
         Point::Weight => other.attrs.weight < one.attrs.weight,
         Point::BgpId => one.bgp_id < other.bgp_id,
         Point::Peer => comes_first(one.from, other.from),
-        Point::NeighbourAs => neighbour_as(one) < neighbour_as(other),
     }
 }
 
@@ -49,7 +46,7 @@ fn local_pref(candidate: &Candidate) -> u32
 }
 
 /// MULTI_EXIT_DISC, 0 where it is absent.
-fn med(candidate: &Candidate) -> u32
+pub(crate) fn med(candidate: &Candidate) -> u32
     ensures { result ≡ med_of candidate.now }
 {
     candidate.attrs.med.unwrap_or(0)
@@ -107,23 +104,13 @@ fn peer(from: Origin) -> Option<Addr>
 }
 
 /// A network comes before neighbours, and these go by address.
+#[tactic(auto, using(net_base::proofs::Order::derived_addr_cmp))]
 fn comes_first(one: Origin, other: Origin) -> bool
     ensures { result ≡ comes_first (peer_of one) (peer_of other) }
 {
     match (peer(one), peer(other)) {
         (_, None) => false,
         (None, Some(_)) => true,
-        (Some(one), Some(other)) => is_below(one, other),
-    }
-}
-
-/// The order of addresses: IPv4 first, then by bits.
-fn is_below(one: Addr, other: Addr) -> bool
-    ensures { result ≡ is_below one.family other.family one.bits other.bits }
-{
-    match (one.family, other.family) {
-        (Family::V4, Family::V6) => true,
-        (Family::V6, Family::V4) => false,
-        _ => one.bits < other.bits,
+        (Some(one), Some(other)) => one < other,
     }
 }

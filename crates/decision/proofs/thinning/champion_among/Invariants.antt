@@ -1,10 +1,10 @@
 use Rattle.std.proofs.Common.{◌≡◌, drop}
-use Rattle.std.specs.Prelude.{option_copied, filter}
+use Rattle.std.specs.Prelude.{option_copied}
 use Rattle.std.specs.List.{fold}
-use Rattle.decision.specs.Points.{beats, better, champion_of, in_scope, picked}
+use Rattle.decision.specs.Points.{beats, better, champion_of, picked}
 use Rattle.decision.proofs.thinning.champion_among.Given as goal
 
 abbrev pub invariant-loop-at : goal.invariant-loop-at
 invariant-loop-at l =
-    fold (better (beats l.point)) (option_copied l.champion) (filter (in_scope l.scope) (picked (drop l.at l.left) (drop l.at l.candidates)))
-    ≡ champion_of (beats l.point) (filter (in_scope l.scope) (picked l.left l.candidates))
+    fold (better (beats l.point)) (option_copied l.champion) (picked (drop l.at l.left) (drop l.at l.candidates))
+    ≡ champion_of (beats l.point) (picked l.left l.candidates)
