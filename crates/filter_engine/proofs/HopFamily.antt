@@ -1,7 +1,6 @@
 -- A next hop that rules give has the family of the prefix.
-use Rattle.std.proofs.Common.{◌≡◌, ℕ, Bool, true, false, cond, List, [], ◌∷◌, Option, Some, None, refl, sym, ap, ◌∙◌, subst}
+use Rattle.std.proofs.Common.{◌≡◌, ℕ, Bool, true, false, List, [], ◌∷◌, Option, Some, refl, ap, subst}
 use Rattle.std.specs.Prelude.{if◌then◌else◌}
-use Rattle.std.specs.List.{fold}
 use Rattle.std.proofs.lemmas.Bool.{cond_both}
 use Rattle.std.proofs.lemmas.Option.{same_Some, none-some}
 use Rattle.net_base.specs.declared.addr.Addr.{Addr}
@@ -16,7 +15,7 @@ use Rattle.conf_tree.specs.declared.rule.Item.TheVariants as sets
 use Rattle.conf_tree.specs.declared.rule.Rule.{Rule}
 use Rattle.filter_engine.specs.declared.context.Context.{Context}
 use Rattle.filter_engine.specs.declared.verdict.Hop.{Hop}
-use Rattle.filter_engine.specs.declared.verdict.Hop.TheVariants.{Unset, SelfHop, NoModify, Given}
+use Rattle.filter_engine.specs.declared.verdict.Hop.TheVariants.{Unset, Given}
 use Rattle.filter_engine.specs.Conditions.{rule_matches}
 use Rattle.filter_engine.specs.Items.{chosen_hop, hop_with_item, hop_with_items}
 use Rattle.filter_engine.specs.Verdict.{Course, begun, evaluated, outcome, taken, verdict}

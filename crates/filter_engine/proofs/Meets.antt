@@ -1,5 +1,5 @@
 -- A rule that is for a route stands in one of the buckets that the route asks for.
-use Rattle.std.proofs.Common.{◌≡◌, ℕ, ◌+◌, ◌*◌, ◌%◌, ◌<◌, Bool, true, false, not, ◌&&◌, List, [], ◌∷◌, length, map, get_or, Option, Some, None, refl, sym, ap, subst, arith, lit<}
+use Rattle.std.proofs.Common.{◌≡◌, ℕ, ◌+◌, ◌*◌, ◌%◌, ◌<◌, true, false, not, ◌&&◌, List, map, get_or, Option, Some, None, subst, lit<}
 use Rattle.std.specs.Prelude.{◌==◌, bytes_eq, if◌then◌else◌}
 use Rattle.std.specs.Option.{option_map_or}
 use Rattle.std.proofs.lemmas.Bool.{and_parts, not-true, eqb-true, cond-true, cond-false}

@@ -1,6 +1,7 @@
-//! What an evaluation has asked of validation, which it asks at most once.
+//! What an evaluation has asked of validation, and what it was told.
 
 ghost use Rattle.std.specs.Prelude.{◌≡◌, None};
+ghost use Rattle.std.specs.List.{All};
 ghost use Rattle.net_base.specs.Roa.{origin_validation};
 ghost use Rattle.conf_tree.specs.declared.sets.SetKind.TheVariants as kinds;
 ghost use Rattle.conf_tree.specs.Membership.{Names, in_origin_set};
@@ -10,24 +11,28 @@ use crate::Context;
 use conf_tree::{Members, SetId};
 use net_base::Ovs;
 
+/// How many answers of origin-sets are kept.
+const KEPT: usize = 16;
+
 /// The answers for the route of one evaluation. The path with which it began doesn't change, so neither do they.
 #[derive(Clone, Copy, Debug, Drop)]
 pub(crate) struct Asked {
     /// What origin validation said.
     pub(crate) ovs: Option<Ovs>,
-    /// The place of the origin-set that was asked last, and what it said.
-    pub(crate) origin_set: Option<(u32, bool)>,
+    /// The places of origin-sets, and what they said: each at the rest of its place by `KEPT`, the one asked last where
+    /// several have the same.
+    pub(crate) origin_sets: [Option<(u32, bool)>; KEPT],
 }
 
 impl Asked {
     /// Nothing is asked at first.
     pub(crate) fn nothing() -> Asked
         ensures none { result.ovs ≡ None }
-        ensures no_set { result.origin_set ≡ None }
+        ensures no_set { All (λ kept. kept ≡ None) result.origin_sets }
     {
         Asked {
             ovs: None,
-            origin_set: None,
+            origin_sets: [None; KEPT],
         }
     }
 }
@@ -51,7 +56,7 @@ pub(crate) fn ovs<M: Members>(
     said
 }
 
-/// Whether an origin-set has the route, asked of the sets where it isn't the one that was asked last.
+/// Whether an origin-set has the route, asked of the sets where its answer isn't kept.
 #[tactic(auto, unfolding(conf_tree::specs::Membership::in_origin_set))]
 pub(crate) fn in_origin_set<M: Members>(
     sets: &M,
@@ -65,11 +70,12 @@ pub(crate) fn in_origin_set<M: Members>(
     ensures said { result ≡ in_origin_set (M.conf_of sets.now) set context.now.prefix origin }
     ensures kept { AreRight (M.conf_of sets.now) context.now origin asked.new }
 {
-    match asked.origin_set {
+    let place = set.at as usize % KEPT;
+    match asked.origin_sets[place] {
         Some((at, said)) if at == set.at => said,
         _ => {
             let said = sets.in_origin_set(set, context.prefix, origin);
-            asked.origin_set = Some((set.at, said));
+            asked.origin_sets[place] = Some((set.at, said));
             said
         }
     }

@@ -5,12 +5,13 @@ ghost use Rattle.std.specs.List.{list_any};
 ghost use Rattle.std.specs.Option.{option_map_or};
 ghost use Rattle.attr_model.specs.Valid.{numbers_of};
 ghost use Rattle.conf_tree.specs.declared.sets.SetKind.TheVariants as kinds;
-ghost use Rattle.conf_tree.specs.Membership.{Names};
+ghost use Rattle.conf_tree.specs.Membership.{Names, in_as_set};
 ghost use Rattle.filter_engine.specs.Conditions.{path_numbers, numbers_in};
 ghost use Rattle.filter_engine.specs.Wanted.{is_wanted, IsThere, last_of};
 
 use attr_model::Segment;
 use conf_tree::{Members, PathPart, SetId};
+use lane_scan::has_as;
 
 /// The AS numbers that a condition asks for.
 #[derive(Clone, Copy, Debug, PartialEq, Eq)]
@@ -36,8 +37,19 @@ fn has_wanted<M: Members>(sets: &M, wanted: Wanted, numbers: &[u32]) -> bool
     requires { IsThere (M.conf_of sets.now) wanted }
     ensures { result ≡ list_any (is_wanted (M.conf_of sets.now) wanted) numbers.now }
 {
+    match wanted {
+        Wanted::Number(asn) => has_as(numbers, asn),
+        Wanted::Of(set) => has_member(sets, set, numbers),
+    }
+}
+
+/// Whether some of these numbers stands in an as-set.
+fn has_member<M: Members>(sets: &M, set: SetId, numbers: &[u32]) -> bool
+    requires { Names (M.conf_of sets.now) kinds.As set }
+    ensures { result ≡ list_any (in_as_set (M.conf_of sets.now) set) numbers.now }
+{
     for number in numbers {
-        if is_wanted(sets, wanted, *number) {
+        if sets.in_as_set(set, *number) {
             return true;
         }
     }

@@ -1,6 +1,6 @@
-use Rattle.std.proofs.Common.{◌≡◌, ℕ, ◌+◌, ◌-◌, ◌<◌, ◌≤◌, ◌∙◌, List, get_or, length, sym, ap, subst, arith, rules}
+use Rattle.std.proofs.Common.{ℕ, ◌+◌, ◌<◌, ◌≤◌, ◌∙◌, List, get_or, length, sym, ap, subst, arith, rules}
 use Rattle.filter_engine.specs.Progress.{course_of}
-use Rattle.filter_engine.specs.Verdict.{Course, begun, evaluated}
+use Rattle.filter_engine.specs.Verdict.{Course, evaluated}
 use Rattle.filter_engine.proofs.Linking.{moved}
 use Rattle.filter_engine.proofs.Meets.{wanted_below}
 use Rattle.filter_engine.proofs.Skipping.{followed, skipped}

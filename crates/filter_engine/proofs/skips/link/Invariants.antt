@@ -1,4 +1,4 @@
-use Rattle.std.proofs.Common.{◌≡◌, ◌≤◌, ℕ, length}
+use Rattle.std.proofs.Common.{◌≡◌, ◌≤◌, length}
 use Rattle.filter_engine.specs.Skips.{AreLinked}
 use Rattle.filter_engine.proofs.skips.link.Given as goal
 

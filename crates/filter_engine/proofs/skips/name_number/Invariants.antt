@@ -1,4 +1,4 @@
-use Rattle.std.proofs.Common.{◌≡◌, ℕ, ◌+◌, ◌*◌, ◌%◌, ◌<◌, drop}
+use Rattle.std.proofs.Common.{◌≡◌, ◌+◌, ◌*◌, ◌%◌, ◌<◌, drop}
 use Rattle.std.specs.List.{fold}
 use Rattle.filter_engine.specs.Skips.{name_number}
 use Rattle.filter_engine.proofs.skips.name_number.Given as goal
