@@ -6,12 +6,13 @@ use Rattle.bgp_wire.specs.declared.open.Encoding.{Encoding}
 use Rattle.bgp_wire.specs.Message.{AreBytes, IsMessage, Message, message_bytes, Messages, messages, messages_in}
 use Rattle.bgp_wire.proofs.Stream.{goes_on, message_written}
 use Rattle.update_codec.specs.declared.update.Update.{Update}
-use Rattle.update_codec.specs.Held.{Routes, with_update, held, updates_in, told_from, told}
+use Rattle.attr_model.specs.Routes.{RouteTable}
+use Rattle.update_codec.specs.Held.{with_update, held, updates_in, told_from, told}
 
 pub held_more : (updates : List Update) (update : Update) → held (updates ++ update ∷ []) ≡ with_update (held updates) update
 held_more updates update = fold-append with_update [] updates (update ∷ [])
 
-told_on : (enc : Encoding) (routes : Routes) (xs ys : List Message) → told_from enc routes (xs ++ ys) ≡ told_from enc (told_from enc routes xs) ys
+told_on : (enc : Encoding) (routes : RouteTable) (xs ys : List Message) → told_from enc routes (xs ++ ys) ≡ told_from enc (told_from enc routes xs) ys
 told_on enc routes xs ys = ap (fold with_update routes) (flat_map-append (updates_in enc) xs ys) ∙ fold-append with_update routes (flat_map (updates_in enc) xs) (flat_map (updates_in enc) ys)
 
 pub told_more : (enc : Encoding) (bytes more : List ℕ) → AreBytes bytes → (messages bytes).fault ≡ None → told enc (bytes ++ more) ≡ told_from enc (told enc bytes) (messages ((messages bytes).rest ++ more)).whole

@@ -1,13 +1,8 @@
 -- Routes that valid UPDATEs leave have valid attributes.
-use Rattle.std.proofs.Common.{ℕ, zero, suc, Bool, true, false, cond, List, [], ◌∷◌, length, fold, flat_map, take, drop, Result, Ok, Err}
+use Rattle.std.proofs.Common.{ℕ, zero, suc, Bool, true, false, cond, List, [], ◌∷◌, length, flat_map, take, drop, Result, Ok, Err}
 use Rattle.std.specs.Prelude.{IfOk, ◌==◌}
 use Rattle.std.specs.List.{AllByRecursion}
-use Rattle.std.specs.BTreeMap.{is_at}
-use Rattle.std.specs.Ordering.{match_ordering}
-use Rattle.std.specs.declared.cmp.Ordering.{Ordering}
-use Rattle.std.specs.declared.cmp.Ordering.TheVariants.{Less, Equal, Greater}
 use Rattle.net_base.specs.declared.prefix.Prefix.{Prefix}
-use Rattle.net_base.specs.Order.{prefix_cmp}
 use Rattle.bgp_wire.specs.declared.front.Cut.{Cut}
 use Rattle.bgp_wire.specs.declared.front.Cut.TheVariants as cuts
 use Rattle.bgp_wire.specs.declared.open.Encoding.{Encoding}
@@ -18,48 +13,30 @@ use Rattle.attr_codec.proofs.Appends.{all_append}
 use Rattle.attr_codec.proofs.Bytes.{bytes_behind, bytes_front}
 use Rattle.update_codec.specs.declared.update.Update.{Update}
 use Rattle.update_codec.specs.Update.{update_says}
-use Rattle.update_codec.specs.Held.{Routes, without, with_route, with_group, with_update, held, read_ones, updates_in, told}
+use Rattle.update_codec.specs.Held.{held, read_ones, updates_in, told}
 use Rattle.update_codec.specs.Valid.{HasValid, AnnouncesValid, HaveValid}
+use Rattle.update_codec.proofs.HeldEach.{Announces, held_each}
 use Rattle.update_codec.proofs.ReadValid.{says_valid}
 
--- ---- one UPDATE
+-- ---- UPDATEs
 
-without_valid : (routes : Routes) (prefix : Prefix) → HaveValid routes → HaveValid (without routes prefix)
-without_valid [] prefix valid = tt
-without_valid (route ∷ routes) prefix valid = by (is_at (prefix_cmp prefix) route.0) (without_valid routes prefix valid.1)
-  where
-    by : (b : Bool) → HaveValid (without routes prefix) → HaveValid (cond b routes (route ∷ without routes prefix))
-    by true rest = valid.1
-    by false rest = (valid.0, rest)
+abbrev IsValidFor : Attrs → Prefix → Type 0
+IsValidFor attrs prefix = IsValid attrs
 
-with_valid : (attrs : Attrs) (routes : Routes) (prefix : Prefix) → IsValid attrs → HaveValid routes → HaveValid (with_route attrs routes prefix)
-with_valid attrs [] prefix is valid = (is, tt)
-with_valid attrs (route ∷ routes) prefix is valid = by (prefix_cmp prefix route.0) (with_valid attrs routes prefix is valid.1)
-  where
-    by : (o : Ordering) → HaveValid (with_route attrs routes prefix) → HaveValid (match_ordering o ((prefix, attrs) ∷ (route ∷ routes)) ((route.0, attrs) ∷ routes) (route ∷ with_route attrs routes prefix))
-    by Less rest = (is, valid)
-    by Equal rest = (is, valid.1)
-    by Greater rest = (valid.0, rest)
+each_valid : (attrs : Attrs) (prefixes : List Prefix) → IsValid attrs → AllByRecursion (IsValidFor attrs) prefixes
+each_valid attrs [] is = tt
+each_valid attrs (prefix ∷ prefixes) is = (is, each_valid attrs prefixes is)
 
-all_without : (prefixes : List Prefix) (routes : Routes) → HaveValid routes → HaveValid (fold without routes prefixes)
-all_without [] routes valid = valid
-all_without (prefix ∷ prefixes) routes valid = all_without prefixes (without routes prefix) (without_valid routes prefix valid)
+groups_valid : (groups : List (Attrs × List Prefix)) → AllByRecursion HasValid groups → AllByRecursion (λ (group : Attrs × List Prefix). AllByRecursion (IsValidFor group.0) group.1) groups
+groups_valid [] are = tt
+groups_valid (group ∷ groups) are = (each_valid group.0 group.1 are.0, groups_valid groups are.1)
 
-all_with : (attrs : Attrs) (prefixes : List Prefix) (routes : Routes) → IsValid attrs → HaveValid routes → HaveValid (fold (with_route attrs) routes prefixes)
-all_with attrs [] routes is valid = valid
-all_with attrs (prefix ∷ prefixes) routes is valid = all_with attrs prefixes (with_route attrs routes prefix) is (with_valid attrs routes prefix is valid)
-
-all_groups : (groups : List (Attrs × List Prefix)) (routes : Routes) → AllByRecursion HasValid groups → HaveValid routes → HaveValid (fold with_group routes groups)
-all_groups [] routes are valid = valid
-all_groups (group ∷ groups) routes are valid = all_groups groups (with_group routes group) are.1 (all_with group.0 group.1 routes are.0 valid)
-
-all_updates : (updates : List Update) (routes : Routes) → AllByRecursion AnnouncesValid updates → HaveValid routes → HaveValid (fold with_update routes updates)
-all_updates [] routes are valid = valid
-all_updates (update ∷ updates) routes are valid =
-    all_updates updates (with_update routes update) are.1 (all_groups update.announced (fold without routes update.withdrawn) are.0 (all_without update.withdrawn routes valid))
+announce_valid : (updates : List Update) → AllByRecursion AnnouncesValid updates → AllByRecursion (Announces IsValidFor) updates
+announce_valid [] are = tt
+announce_valid (update ∷ updates) are = (groups_valid update.announced are.0, announce_valid updates are.1)
 
 pub held_valid : (updates : List Update) → AllByRecursion AnnouncesValid updates → HaveValid (held updates)
-held_valid updates are = all_updates updates [] are tt
+held_valid updates are = held_each IsValidFor updates (announce_valid updates are)
 
 -- ---- the bytes of a connection
 

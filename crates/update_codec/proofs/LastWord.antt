@@ -16,24 +16,25 @@ use Rattle.net_base.specs.Order.{prefix_cmp}
 use Rattle.net_base.proofs.Order.{prefix_cmp-total, prefix_cmp-Equal}
 use Rattle.attr_model.specs.declared.attrs.Attrs.{Attrs}
 use Rattle.update_codec.specs.declared.update.Update.{Update}
-use Rattle.update_codec.specs.Held.{Routes, without, with_route, with_group, with_update, held, withdrawal_of, announcements_of, words_of, with_word, last_word}
+use Rattle.attr_model.specs.Routes.{RouteTable, without_route, with_route}
+use Rattle.update_codec.specs.Held.{with_group, with_update, held, withdrawal_of, announcements_of, words_of, with_word, last_word}
 
 abbrev Word : Type 0
 Word = Prefix × Option Attrs
 
-abbrev IsBelow : Prefix → Routes → Type 0
+abbrev IsBelow : Prefix → RouteTable → Type 0
 IsBelow p routes = AllByRecursion (λ q. prefix_cmp p q ≡ Less) (keys_of routes)
 
-abbrev Ascends : Routes → Type 0
+abbrev Ascends : RouteTable → Type 0
 Ascends routes = IsStrictlySortedBy prefix_cmp (keys_of routes)
 
 -- ---- one word
 
-below_first : (p q : Prefix) (routes : Routes) → prefix_cmp p q ≡ Less → IsBelow q routes → IsBelow p routes
+below_first : (p q : Prefix) (routes : RouteTable) → prefix_cmp p q ≡ Less → IsBelow q routes → IsBelow p routes
 below_first p q [] h all = tt
 below_first p q (r ∷ routes) h all = (prefix_cmp-total.trans p q r.0 h all.0, below_first p q routes h all.1)
 
-below_with : (low p : Prefix) (attrs : Attrs) (routes : Routes) → prefix_cmp low p ≡ Less → IsBelow low routes → IsBelow low (insert_entry prefix_cmp routes p attrs)
+below_with : (low p : Prefix) (attrs : Attrs) (routes : RouteTable) → prefix_cmp low p ≡ Less → IsBelow low routes → IsBelow low (insert_entry prefix_cmp routes p attrs)
 below_with low p attrs [] h all = (h, tt)
 below_with low p attrs (r ∷ routes) h all = by (prefix_cmp p r.0) (below_with low p attrs routes h all.1)
   where
@@ -42,7 +43,7 @@ below_with low p attrs (r ∷ routes) h all = by (prefix_cmp p r.0) (below_with 
     by Equal behind = all
     by Greater behind = (all.0, behind)
 
-with_ascends : (attrs : Attrs) (routes : Routes) (p : Prefix) → Ascends routes → Ascends (with_route attrs routes p)
+with_ascends : (attrs : Attrs) (routes : RouteTable) (p : Prefix) → Ascends routes → Ascends (with_route attrs routes p)
 unfolding IsStrictlySortedBy
 with_ascends attrs [] p is = (tt, tt)
 with_ascends attrs (r ∷ routes) p is = by (prefix_cmp p r.0) refl (with_ascends attrs routes p is.1)
@@ -52,20 +53,20 @@ with_ascends attrs (r ∷ routes) p is = by (prefix_cmp p r.0) refl (with_ascend
     by Equal h behind = is
     by Greater h behind = (below_with r.0 p attrs routes (prefix_cmp-total.antisymm r.0 p ∙ ap ordering_reverse h) is.0, behind)
 
-below_without : (low p : Prefix) (routes : Routes) → IsBelow low routes → IsBelow low (without routes p)
+below_without : (low p : Prefix) (routes : RouteTable) → IsBelow low routes → IsBelow low (without_route routes p)
 below_without low p [] all = tt
 below_without low p (r ∷ routes) all = by (is_at (prefix_cmp p) r.0) (below_without low p routes all.1)
   where
-    by : (b : Bool) → IsBelow low (without routes p) → IsBelow low (cond b routes (r ∷ without routes p))
+    by : (b : Bool) → IsBelow low (without_route routes p) → IsBelow low (cond b routes (r ∷ without_route routes p))
     by true behind = all.1
     by false behind = (all.0, behind)
 
-without_ascends : (routes : Routes) (p : Prefix) → Ascends routes → Ascends (without routes p)
+without_ascends : (routes : RouteTable) (p : Prefix) → Ascends routes → Ascends (without_route routes p)
 unfolding IsStrictlySortedBy
 without_ascends [] p is = tt
 without_ascends (r ∷ routes) p is = by (is_at (prefix_cmp p) r.0) (without_ascends routes p is.1)
   where
-    by : (b : Bool) → Ascends (without routes p) → Ascends (cond b routes (r ∷ without routes p))
+    by : (b : Bool) → Ascends (without_route routes p) → Ascends (cond b routes (r ∷ without_route routes p))
     by true behind = is.1
     by false behind = (below_without r.0 p routes is.0, behind)
 
@@ -74,14 +75,14 @@ without_ascends (r ∷ routes) p is = by (is_at (prefix_cmp p) r.0) (without_asc
 same : (p q : Prefix) → is_at (prefix_cmp p) q ≡ true → p ≡ q
 same p q e = prefix_cmp-Equal p q e
 
-abbrev at : Prefix → Routes → Option Attrs
+abbrev at : Prefix → RouteTable → Option Attrs
 at p routes = lookup (is_at (prefix_cmp p)) routes
 
-none_below : (p : Prefix) (routes : Routes) → IsBelow p routes → at p routes ≡ None
+none_below : (p : Prefix) (routes : RouteTable) → IsBelow p routes → at p routes ≡ None
 none_below p [] all = refl
 none_below p (r ∷ routes) all = rw all.0 (none_below p routes all.1)
 
-at_with : (attrs : Attrs) (routes : Routes) (p q : Prefix) → at q (with_route attrs routes p) ≡ cond (is_at (prefix_cmp q) p) (Some attrs) (at q routes)
+at_with : (attrs : Attrs) (routes : RouteTable) (p q : Prefix) → at q (with_route attrs routes p) ≡ cond (is_at (prefix_cmp q) p) (Some attrs) (at q routes)
 at_with attrs [] p q = refl
 at_with attrs (r ∷ routes) p q = by (prefix_cmp p r.0) refl (at_with attrs routes p q)
   where
@@ -109,7 +110,7 @@ at_with attrs (r ∷ routes) p q = by (prefix_cmp p r.0) refl (at_with attrs rou
         either false c e = rw (← e) refl
     by Greater h behind = there (is_at (prefix_cmp q) p) (is_at (prefix_cmp q) r.0) refl refl h behind
 
-at_without : (routes : Routes) (p q : Prefix) → Ascends routes → at q (without routes p) ≡ cond (is_at (prefix_cmp q) p) None (at q routes)
+at_without : (routes : RouteTable) (p q : Prefix) → Ascends routes → at q (without_route routes p) ≡ cond (is_at (prefix_cmp q) p) None (at q routes)
 unfolding IsStrictlySortedBy
 at_without [] p q is = either (is_at (prefix_cmp q) p)
   where
@@ -118,8 +119,8 @@ at_without [] p q is = either (is_at (prefix_cmp q) p)
     either false = refl
 at_without (r ∷ routes) p q is = by (is_at (prefix_cmp p) r.0) (is_at (prefix_cmp q) p) (is_at (prefix_cmp q) r.0) refl refl refl (at_without routes p q is.1)
   where
-    by : (a b c : Bool) → is_at (prefix_cmp p) r.0 ≡ a → is_at (prefix_cmp q) p ≡ b → is_at (prefix_cmp q) r.0 ≡ c → at q (without routes p) ≡ cond b None (at q routes)
-        → at q (cond a routes (r ∷ without routes p)) ≡ cond b None (cond c (Some r.1) (at q routes))
+    by : (a b c : Bool) → is_at (prefix_cmp p) r.0 ≡ a → is_at (prefix_cmp q) p ≡ b → is_at (prefix_cmp q) r.0 ≡ c → at q (without_route routes p) ≡ cond b None (at q routes)
+        → at q (cond a routes (r ∷ without_route routes p)) ≡ cond b None (cond c (Some r.1) (at q routes))
     by true true c ea eb ec behind =
         let one : r.0 ≡ q = sym (same p r.0 ea) ∙ sym (same q p eb) in
         none_below q routes (subst (λ (x : Prefix). IsBelow x routes) one is.0)
@@ -136,49 +137,49 @@ at_without (r ∷ routes) p q is = by (is_at (prefix_cmp p) r.0) (is_at (prefix_
 
 -- ---- all words
 
-abbrev after_word : Routes → Word → Routes
-after_word routes (p, None) = without routes p
+abbrev after_word : RouteTable → Word → RouteTable
+after_word routes (p, None) = without_route routes p
 after_word routes (p, Some attrs) = with_route attrs routes p
 
 -- The routes ascend, and under the prefix stands what was said of it last.
-record IsSaid (p : Prefix) (said : Option Attrs) (routes : Routes) : Type 0 where
+record IsSaid (p : Prefix) (said : Option Attrs) (routes : RouteTable) : Type 0 where
   ascends : Ascends routes
   under : at p routes ≡ said
 
-one_word : (p : Prefix) (said : Option Attrs) (routes : Routes) (q : Prefix) (o : Option Attrs) → IsSaid p said routes → IsSaid p (with_word p said (q, o)) (after_word routes (q, o))
+one_word : (p : Prefix) (said : Option Attrs) (routes : RouteTable) (q : Prefix) (o : Option Attrs) → IsSaid p said routes → IsSaid p (with_word p said (q, o)) (after_word routes (q, o))
 one_word p said routes q None is = record { ascends = without_ascends routes q is.ascends; under = at_without routes q p is.ascends ∙ ap (cond (is_at (prefix_cmp p) q) None) is.under }
 one_word p said routes q (Some attrs) is = record { ascends = with_ascends attrs routes q is.ascends; under = at_with attrs routes q p ∙ ap (cond (is_at (prefix_cmp p) q) (Some attrs)) is.under }
 
-all_words : (p : Prefix) (said : Option Attrs) (routes : Routes) (words : List Word) → IsSaid p said routes → IsSaid p (fold (with_word p) said words) (fold after_word routes words)
+all_words : (p : Prefix) (said : Option Attrs) (routes : RouteTable) (words : List Word) → IsSaid p said routes → IsSaid p (fold (with_word p) said words) (fold after_word routes words)
 all_words p said routes [] is = is
 all_words p said routes (w ∷ words) is = all_words p (with_word p said w) (after_word routes w) words (one_word p said routes w.0 w.1 is)
 
-withdrawals : (routes : Routes) (ps : List Prefix) → fold after_word routes (map withdrawal_of ps) ≡ fold without routes ps
+withdrawals : (routes : RouteTable) (ps : List Prefix) → fold after_word routes (map withdrawal_of ps) ≡ fold without_route routes ps
 withdrawals routes [] = refl
-withdrawals routes (p ∷ ps) = withdrawals (without routes p) ps
+withdrawals routes (p ∷ ps) = withdrawals (without_route routes p) ps
 
-announcements : (attrs : Attrs) (routes : Routes) (ps : List Prefix) → fold after_word routes (announcements_of (attrs, ps)) ≡ fold (with_route attrs) routes ps
+announcements : (attrs : Attrs) (routes : RouteTable) (ps : List Prefix) → fold after_word routes (announcements_of (attrs, ps)) ≡ fold (with_route attrs) routes ps
 announcements attrs routes [] = refl
 announcements attrs routes (p ∷ ps) = announcements attrs (with_route attrs routes p) ps
 
-groups : (routes : Routes) (gs : List (Attrs × List Prefix)) → fold after_word routes (flat_map announcements_of gs) ≡ fold with_group routes gs
+groups : (routes : RouteTable) (gs : List (Attrs × List Prefix)) → fold after_word routes (flat_map announcements_of gs) ≡ fold with_group routes gs
 groups routes [] = refl
 groups routes (g ∷ gs) =
     fold-append after_word routes (announcements_of g) (flat_map announcements_of gs)
-    ∙ ap (λ (r : Routes). fold after_word r (flat_map announcements_of gs)) (announcements g.0 routes g.1)
+    ∙ ap (λ (r : RouteTable). fold after_word r (flat_map announcements_of gs)) (announcements g.0 routes g.1)
     ∙ groups (with_group routes g) gs
 
-one_update : (routes : Routes) (u : Update) → fold after_word routes (words_of u) ≡ with_update routes u
+one_update : (routes : RouteTable) (u : Update) → fold after_word routes (words_of u) ≡ with_update routes u
 one_update routes u =
     fold-append after_word routes (map withdrawal_of u.withdrawn) (flat_map announcements_of u.announced)
-    ∙ ap (λ (r : Routes). fold after_word r (flat_map announcements_of u.announced)) (withdrawals routes u.withdrawn)
-    ∙ groups (fold without routes u.withdrawn) u.announced
+    ∙ ap (λ (r : RouteTable). fold after_word r (flat_map announcements_of u.announced)) (withdrawals routes u.withdrawn)
+    ∙ groups (fold without_route routes u.withdrawn) u.announced
 
-all_updates : (routes : Routes) (us : List Update) → fold after_word routes (flat_map words_of us) ≡ fold with_update routes us
+all_updates : (routes : RouteTable) (us : List Update) → fold after_word routes (flat_map words_of us) ≡ fold with_update routes us
 all_updates routes [] = refl
 all_updates routes (u ∷ us) =
     fold-append after_word routes (words_of u) (flat_map words_of us)
-    ∙ ap (λ (r : Routes). fold after_word r (flat_map words_of us)) (one_update routes u)
+    ∙ ap (λ (r : RouteTable). fold after_word r (flat_map words_of us)) (one_update routes u)
     ∙ all_updates (with_update routes u) us
 
 begins : (p : Prefix) → IsSaid p None []

@@ -3,7 +3,9 @@ mod ReadBack
 mod Plain
 mod Stream
 mod ReadValid
+mod HeldEach
 mod HeldValid
+mod FamiliesRead
 mod Going
 mod LastWord
 mod TypesAscend

@@ -75,11 +75,11 @@ withdrawn_are body field are e = (field_are body field are (leaves_same (field_a
 -- ---- the whole body
 
 -- what holds behind a step that may fail
-step : {A B : Type 0} (P : B → Type 0) (said : Result A ℕ) (next : A → Result B ℕ) → ((x : A) → said ≡ Ok x → IfOk (next x) P) → IfOk (said >>= next) P
+pub step : {A B : Type 0} (P : B → Type 0) (said : Result A ℕ) (next : A → Result B ℕ) → ((x : A) → said ≡ Ok x → IfOk (next x) P) → IfOk (said >>= next) P
 step P (Ok x) next h = h x refl
 step P (Err sub) next h = tt
 
-found : {X : Type 0} (sub : ℕ) (o : Option X) (x : X) → or_fault sub o ≡ Ok x → o ≡ Some x
+pub found : {X : Type 0} (sub : ℕ) (o : Option X) (x : X) → or_fault sub o ≡ Ok x → o ≡ Some x
 found sub None x e = absurd cc
 found sub (Some y) x e = let same : y ≡ x = cc in rw same refl
 

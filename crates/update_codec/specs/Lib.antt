@@ -2,3 +2,4 @@ pub mod Update
 pub mod Written
 pub mod Held
 pub mod Valid
+pub mod Families

@@ -5,7 +5,7 @@ use Rattle.net_base.specs.declared.prefix.Prefix.{Prefix}
 use Rattle.attr_model.specs.declared.attrs.Attrs.{Attrs}
 use Rattle.attr_model.specs.Valid.{IsValid}
 use Rattle.update_codec.specs.declared.update.Update.{Update}
-use Rattle.update_codec.specs.Held.{Routes}
+use Rattle.attr_model.specs.Routes.{RouteTable}
 
 -- A group's attributes are valid.
 abbrev pub HasValid : Attrs × List Prefix → Type 0
@@ -16,5 +16,5 @@ abbrev pub AnnouncesValid : Update → Type 0
 AnnouncesValid update = AllByRecursion HasValid update.announced
 
 -- Those of each route are.
-abbrev pub HaveValid : Routes → Type 0
+abbrev pub HaveValid : RouteTable → Type 0
 HaveValid routes = AllByRecursion (λ (route : Prefix × Attrs). IsValid route.1) routes

@@ -17,6 +17,7 @@ ghost use Rattle.update_codec.specs.declared.out_update.OutUpdate.{OutUpdate};
 ghost use Rattle.update_codec.specs.Written.{update_message, message_size, read_by_peer, IsWritable, Fits, HasWidth};
 ghost use Rattle.update_codec.specs.Held.{with_update, held, words_of, last_word, updates_in, told_from, told};
 ghost use Rattle.update_codec.specs.Valid.{AnnouncesValid, HaveValid};
+ghost use Rattle.update_codec.specs.Families.{AnnouncesFamilies, HaveFamilies};
 
 /// What an UPDATE announces has valid attributes, as what is sent has to have.
 pub fn update_attributes_are_valid()
@@ -28,6 +29,13 @@ pub fn held_attributes_are_valid()
     ensures held { (updates : List Update) → AllByRecursion AnnouncesValid updates → HaveValid (held updates) }
     // The bytes of a connection leave no others.
     ensures told { (enc : Encoding) (bytes : List ℕ) → AreBytes bytes → HaveValid (told enc bytes) }
+{}
+
+/// The next hop of an announced prefix has its family: NEXT_HOP is an IPv4 address, and in MP_REACH_NLRI the family is that of
+/// both (RFC 4760 section 3). So have those of the routes that the bytes of a connection leave.
+pub fn held_hops_have_the_family()
+    ensures update { (enc : Encoding) (body : List ℕ) → IfOk (update_says enc body) AnnouncesFamilies }
+    ensures told { (enc : Encoding) (bytes : List ℕ) → HaveFamilies (told enc bytes) }
 {}
 
 /// An UPDATE that is sent has the size that its parts say, and the peer reads from it what was sent.

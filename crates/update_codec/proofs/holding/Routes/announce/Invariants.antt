@@ -1,6 +1,0 @@
-use Rattle.std.proofs.Common.{◌≡◌, take}
-use Rattle.update_codec.specs.Held.{with_group}
-use Rattle.update_codec.proofs.holding.Routes.announce.Given as goal
-
-abbrev pub invariant-loop-prefix : goal.invariant-loop-prefix
-invariant-loop-prefix l = l.self ≡ with_group l.fn.self (l.attrs, take l.prefix-index l.prefixes)
