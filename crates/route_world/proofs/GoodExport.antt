@@ -1,6 +1,6 @@
 -- What export gives may be sent.
 use Rattle.std.proofs.Common.{◌≡◌, ◌≢◌, ℕ, zero, suc, ◌<◌, ◌≤◌, Bool, true, false, not, ◌&&◌, ◌||◌, List, [], ◌∷◌, length, get_or, Option, Some, None, option_map, option_and_then, refl, sym, ap, ◌∙◌, subst, arith}
-use Rattle.std.specs.Prelude.{Contains, is_some, if◌then◌else◌, ◌==◌, nat_le}
+use Rattle.std.specs.Prelude.{Contains, is_some, unwrap_or, IfSome, if◌then◌else◌, ◌==◌, nat_le}
 use Rattle.std.specs.List.{AllByRecursion}
 use Rattle.std.proofs.lemmas.Bool.{cond-false, cond-true, leb-true, not-false, or_parts, true≢false}
 use Rattle.std.proofs.lemmas.Option.{cond_some, none-some, option_and_then_some, same_Some}
@@ -33,7 +33,12 @@ use Rattle.route_world.specs.Import.{candidates}
 use Rattle.route_world.specs.Export.{as_told, came_from, exchanges, export, export_context, if_it_fits, is_held_by_community, is_internal, is_kept_back, is_local, own_address, own_address_or, router_address, specified_or, told_attrs, told_hop, told_if_it_fits, without_med}
 use Rattle.route_world.specs.Sent.{HoldGood, IsGood, MayBeTold}
 use Rattle.route_world.specs.Tables.{best_at, told_at}
+use Rattle.conf_tree.specs.Readable.{IsReadable}
+use Rattle.attr_codec.specs.Width.{HaveWidth, IsNumber}
+use Rattle.route_world.specs.Sent.{HaveWidthAt}
 use Rattle.route_world.proofs.Steady.{Fits, one_family, verdict_steady}
+use Rattle.route_world.proofs.Widths.{in_front, of_range, verdict_wide, wide}
+use Rattle.route_world.proofs.WideCandidates.{IsWideOne, candidates_wide}
 use Rattle.route_world.proofs.GoodCandidates.{IsGoodOne, candidates_good}
 
 -- ---- options
@@ -123,6 +128,23 @@ told_attrs_good : (prefix : Prefix) (conf : Conf) (external : Bool) (attrs : Att
 told_attrs_good prefix conf true attrs hop good family = record { valid = valid_with attrs hop None 1 conf.asn good.valid; family = family }
 told_attrs_good prefix conf false attrs hop good family = record { valid = valid_with attrs hop _ 0 conf.asn good.valid; family = family }
 
+without_med_wide : (external : Bool) (from : Origin) (attrs : Attrs) → HaveWidth attrs → HaveWidth (without_med external from attrs)
+without_med_wide external from attrs w = by (external && not (is_local from))
+  where
+    by : (gone : Bool) → HaveWidth (if gone then record attrs { med = None } else attrs)
+    by true = wide attrs attrs.origin attrs.path attrs.hop None attrs.local_pref attrs.communities attrs.large attrs.partial attrs.weight w.path tt w.local_pref w.communities w.large w
+    by false = w
+
+preferred : (current : Option ℕ) → IfSome current IsNumber → IsNumber (unwrap_or current 100)
+preferred None is = omega arith
+preferred (Some current) is = is
+
+told_attrs_wide : (conf : Conf) (external : Bool) (attrs : Attrs) (hop : Addr) → IsNumber conf.asn → HaveWidth attrs → HaveWidth (told_attrs conf external attrs hop)
+told_attrs_wide conf true attrs hop own w =
+    wide attrs attrs.origin (prepended conf.asn 1 attrs.path) hop attrs.med None attrs.communities attrs.large attrs.partial 0 (in_front conf.asn 1 attrs.path own w.path) w.med tt w.communities w.large w
+told_attrs_wide conf false attrs hop own w =
+    wide attrs attrs.origin attrs.path hop attrs.med (Some (unwrap_or attrs.local_pref 100)) attrs.communities attrs.large attrs.partial 0 w.path w.med (preferred attrs.local_pref w.local_pref) w.communities w.large w
+
 -- ---- export
 
 module _ (conf : Conf) (facts : OpenFacts) (neighbour : Neighbour) (prefix : Prefix) where
@@ -130,7 +152,7 @@ module _ (conf : Conf) (facts : OpenFacts) (neighbour : Neighbour) (prefix : Pre
   own = own_address conf neighbour prefix.family
 
   abbrev Goes : Attrs × Hop → Attrs → Type 0
-  Goes passed attrs = IsTold facts.encoding.external attrs × (update_size facts.encoding attrs (length (prefix_bytes prefix)) ≤ 4096) × (IsGood prefix passed.0 → Fits prefix.family passed.1 → IsGood prefix attrs)
+  Goes passed attrs = IsTold facts.encoding.external attrs × (update_size facts.encoding attrs (length (prefix_bytes prefix)) ≤ 4096) × (IsGood prefix passed.0 → Fits prefix.family passed.1 → IsGood prefix attrs) × (IsNumber conf.asn → HaveWidth passed.0 → HaveWidth attrs)
 
   as_told_good : (passed : Attrs × Hop) (hop : Addr) → told_hop own facts.encoding.external passed.1 passed.0.hop ≡ Some hop → IsGood prefix passed.0 → Fits prefix.family passed.1 → IsGood prefix (told_attrs conf facts.encoding.external passed.0 hop)
   as_told_good passed hop is good fits =
@@ -145,7 +167,7 @@ module _ (conf : Conf) (facts : OpenFacts) (neighbour : Neighbour) (prefix : Pre
       subst (Goes passed) fit.1
       (mapped (told_attrs conf facts.encoding.external passed.0) (told_hop own facts.encoding.external passed.1 passed.0.hop) told is_told
       (λ hop is_hop same.
-      (subst (IsTold facts.encoding.external) same (told_attrs_told conf facts.encoding.external passed.0 hop), leb-true _ _ fit.0, λ good fits_too. subst (IsGood prefix) same (as_told_good passed hop is_hop good fits_too)))))
+      (subst (IsTold facts.encoding.external) same (told_attrs_told conf facts.encoding.external passed.0 hop), leb-true _ _ fit.0, λ good fits_too. subst (IsGood prefix) same (as_told_good passed hop is_hop good fits_too), λ own_number w. subst HaveWidth same (told_attrs_wide conf facts.encoding.external passed.0 hop own_number w)))))
 
   abbrev kept_back : Candidate → Bool
   kept_back best = is_kept_back facts.encoding neighbour prefix best
@@ -181,6 +203,13 @@ module _ (conf : Conf) (facts : OpenFacts) (neighbour : Neighbour) (prefix : Pre
   pub export_local_pref : (best : Candidate) (attrs : Attrs) → export conf facts neighbour prefix best ≡ Some attrs → is_some attrs.local_pref ≡ not facts.encoding.external
   export_local_pref best attrs e = exported best attrs e (λ passed free is_said went. went.0.local_pref)
 
+  pub export_wide : (best : Candidate) (attrs : Attrs) → IsReadable conf → IsNumber facts.asn → HaveWidth best.attrs.attrs → export conf facts neighbour prefix best ≡ Some attrs → HaveWidth attrs
+  export_wide best attrs ready peer w e =
+      let own_number = of_range 1 conf.asn ready.asn in
+      exported best attrs e
+      (λ passed free is_said went. went.3 own_number
+      (verdict_wide (export_context conf facts neighbour prefix) own_number peer conf conf conf.rules (route best) passed ready.rules (without_med_wide facts.encoding.external best.from best.attrs.attrs w) is_said))
+
 -- ---- what a session is told
 
 pub member : {X : Type 0} (P : X → Type 0) (xs : List X) (k : ℕ) (x : X) → AllByRecursion P xs → k < length xs → get_or xs k x ≡ x → P x
@@ -200,3 +229,15 @@ told_good world session neighbour prefix attrs good is_neighbour e =
     let there = best_there world.conf.med_always found best is_best in
     export_good world.conf session.facts neighbour prefix best attrs
     (member (IsGoodOne prefix) found there.0 best (candidates_good world neighbour.rib prefix good) there.1 there.2) is_told)
+
+pub told_wide : (world : World) (session : Session) (prefix : Prefix) (attrs : Attrs) → IsReadable world.conf → IsNumber session.facts.asn → HaveWidthAt prefix world → told_at world session prefix ≡ Some attrs → HaveWidth attrs
+unfolding told_at
+told_wide world session prefix attrs ready peer said e =
+    option_and_then_some (λ (n : Neighbour). option_and_then (export world.conf session.facts n prefix) (best_at world n.rib prefix)) (neighbour_at world.conf session.peer) attrs e
+    (λ neighbour is_neighbour is.
+    option_and_then_some (export world.conf session.facts neighbour prefix) (best_at world neighbour.rib prefix) attrs is
+    (λ best is_best is_told.
+    let found = candidates world neighbour.rib prefix in
+    let there = best_there world.conf.med_always found best is_best in
+    export_wide world.conf session.facts neighbour prefix best attrs ready peer
+    (member IsWideOne found there.0 best (candidates_wide world neighbour.rib prefix ready said) there.1 there.2) is_told))

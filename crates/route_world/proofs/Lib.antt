@@ -5,5 +5,8 @@ mod NoCandidates
 mod ToldBest
 mod Steady
 mod GoodCandidates
+mod Widths
+mod WideCandidates
 mod GoodExport
 mod NetworkRows
+mod NextRib

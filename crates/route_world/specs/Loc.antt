@@ -81,8 +81,11 @@ attrs_at world prefix =
     ++ flat_map (rib_at world prefix) (rib_numbers world.conf)
     ++ flat_map (told_to world prefix) world.sessions
 
+abbrev pub is_seen : List Attrs → Attrs → Bool
+is_seen seen attrs = list_any (λ other. attrs_eq.it other attrs) seen
+
 abbrev pub with_new : List Attrs → Attrs → List Attrs
-with_new seen attrs = if list_any (λ other. attrs_eq.it other attrs) seen then seen else seen ++ attrs ∷ []
+with_new seen attrs = if is_seen seen attrs then seen else seen ++ attrs ∷ []
 
 -- how many different attributes the held routes, the candidates of all RIBs and the told routes have
 unfoldable pub distinct : World → ℕ

@@ -1,5 +1,5 @@
 -- What may be sent to a session (RFC 4271 sections 4.3 and 5).
-use Rattle.std.specs.Prelude.{◌≡◌, ℕ, ◌≤◌, Bool, true, not, is_some, List, length, Option, Some, None, ⊤}
+use Rattle.std.specs.Prelude.{◌≡◌, ℕ, ◌≤◌, Bool, true, not, is_some, List, length, Option, Some, None, IfSome, ⊤}
 use Rattle.std.specs.List.{AllByRecursion}
 use Rattle.net_base.specs.declared.addr.Family.{Family}
 use Rattle.net_base.specs.declared.prefix.Prefix.{Prefix}
@@ -9,6 +9,7 @@ use Rattle.attr_model.specs.Routes.{route_at}
 use Rattle.attr_model.specs.Valid.{IsValid}
 use Rattle.attr_codec.specs.Prefixes.{prefix_bytes}
 use Rattle.attr_codec.specs.Size.{update_size}
+use Rattle.attr_codec.specs.Width.{HaveWidth, IsNumber}
 use Rattle.conf_tree.specs.declared.neighbour.Neighbour.{Neighbour}
 use Rattle.route_world.specs.declared.world.World.{World}
 use Rattle.route_world.specs.declared.world.Session.{Session}
@@ -36,3 +37,11 @@ pub record MayBeTold (enc : Encoding) (neighbour : Neighbour) (prefix : Prefix) 
   pub weight : attrs.weight ≡ 0
   pub local_pref : is_some attrs.local_pref ≡ not enc.external
   pub fits : update_size enc attrs (length (prefix_bytes prefix)) ≤ 4096
+
+-- Each number of what a session says has its width: its AS number, and those of the route to a prefix that it holds.
+pub record HasWidthAt (prefix : Prefix) (session : Session) : Type 0 where
+  pub asn : IsNumber session.facts.asn
+  pub route : IfSome (route_at session.held prefix) HaveWidth
+
+abbrev pub HaveWidthAt : Prefix → World → Type 0
+HaveWidthAt prefix world = AllByRecursion (HasWidthAt prefix) world.sessions

@@ -7,6 +7,8 @@ ghost use Rattle.net_base.specs.Order.{prefix_cmp};
 ghost use Rattle.bgp_wire.specs.declared.open.OpenFacts.{OpenFacts};
 ghost use Rattle.attr_model.specs.declared.attrs.Attrs.{Attrs};
 ghost use Rattle.attr_model.specs.Routes.{route_at};
+ghost use Rattle.attr_codec.specs.Width.{HaveWidth, IsNumber};
+ghost use Rattle.conf_tree.specs.Readable.{IsReadable};
 ghost use Rattle.conf_tree.specs.declared.conf.Conf.{Conf};
 ghost use Rattle.conf_tree.specs.declared.conf.Network.{Network};
 ghost use Rattle.conf_tree.specs.declared.neighbour.Neighbour.{Neighbour};
@@ -20,7 +22,7 @@ ghost use Rattle.route_world.specs.Export.{export};
 ghost use Rattle.route_world.specs.Loc.{loc};
 ghost use Rattle.route_world.specs.Networks.{network_rows};
 ghost use Rattle.route_world.specs.Same.{AreSameAt, HaveSameAnswers, hops_at};
-ghost use Rattle.route_world.specs.Sent.{HoldGood, IsGood, MayBeTold};
+ghost use Rattle.route_world.specs.Sent.{HaveWidthAt, HoldGood, IsGood, MayBeTold};
 ghost use Rattle.route_world.specs.Tables.{best_at, told_at};
 
 /// What a session is told of a prefix goes by the configuration, the neighbour and its facts, and the best of its RIB, and by
@@ -61,6 +63,18 @@ pub fn what_is_told_may_be_sent()
     ensures told { (world : World) (session : Session) (neighbour : Neighbour) (prefix : Prefix) (attrs : Attrs) →
         HoldGood prefix world → neighbour_at world.conf session.peer ≡ Some neighbour → told_at world session prefix ≡ Some attrs →
         MayBeTold session.facts.encoding neighbour prefix attrs }
+{}
+
+/// Each number of what is told has its width, where the configuration is one that can be written, and where the numbers that
+/// sessions say have theirs.
+pub fn numbers_keep_their_width()
+    ensures candidates { (world : World) (rib : ℕ) (prefix : Prefix) → IsReadable world.conf → HaveWidthAt prefix world →
+        AllByRecursion (λ (candidate : Candidate). HaveWidth candidate.attrs.attrs) (candidates world rib prefix) }
+    ensures export { (conf : Conf) (facts : OpenFacts) (neighbour : Neighbour) (prefix : Prefix) (best : Candidate) (attrs : Attrs) →
+        IsReadable conf → IsNumber facts.asn → HaveWidth best.attrs.attrs → export conf facts neighbour prefix best ≡ Some attrs →
+        HaveWidth attrs }
+    ensures told { (world : World) (session : Session) (prefix : Prefix) (attrs : Attrs) → IsReadable world.conf →
+        IsNumber session.facts.asn → HaveWidthAt prefix world → told_at world session prefix ≡ Some attrs → HaveWidth attrs }
 {}
 
 /// LOCAL_PREF is told exactly within the own AS, whatever the candidate.

@@ -2,6 +2,7 @@
 //! stays as plain as the definitions.
 #![tactic(auto)]
 
+mod counting;
 mod exporting;
 mod importing;
 mod laws;
@@ -10,11 +11,13 @@ mod rows;
 mod tables;
 mod world;
 
+pub use counting::distinct;
 pub use exporting::export;
 pub use importing::{CandidateList, candidates, import, network_attrs, network_candidate};
 pub use laws::{
     candidates_go_by_their_routes, loc_of_networks, local_pref_is_told_within_the_own_as,
-    told_goes_by_the_best, unknown_prefixes_have_no_candidates, what_is_told_may_be_sent,
+    numbers_keep_their_width, told_goes_by_the_best, unknown_prefixes_have_no_candidates,
+    what_is_told_may_be_sent,
 };
 pub use networks::network_rows;
 pub use rows::loc;

@@ -88,7 +88,7 @@ fn best_of(found: CandidateList, med_always: bool) -> Option<Candidate>
 
 /// What a session is told of a prefix: the best of its RIB, by the rules of export.
 #[tactic(auto, unfolding(crate::specs::Tables::told_at))]
-fn told_at<M: Members, L: Ledger>(
+pub(crate) fn told_at<M: Members, L: Ledger>(
     alloc: Global,
     world: &World,
     sets: &M,
