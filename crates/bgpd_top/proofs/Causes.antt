@@ -1,106 +1,70 @@
--- Each status of `replay` has its cause.
-use Rattle.std.proofs.Common.{◌≡◌, ℕ, List, Option, None, Some, Result, Ok, Err, refl, sym, ap, ◌∙◌, arith}
-use Rattle.std.proofs.Common.{OnOk, IfErr, inl, inr}
-use Rattle.std.specs.Io.KnownBytes.{append_known}
-use Rattle.event_text.specs.Grammar.{FileEnd, FileEvents, Ended, BadEvent, TooLong}
-use Rattle.bgpd_top.specs.Transcript.{Transcribes, events_of}
+-- Each status has its cause, also the one that is told.
+use Rattle.std.proofs.Common.{ℕ, List, Option, None, Some, Result, Ok, Err, sym, subst, inl, inr}
+use Rattle.event_text.specs.Grammar.{FileEvents}
 use Rattle.bgpd_top.specs.Serving.{Ends, CountsServing}
-use Rattle.bgpd_top.specs.Command.{ReplayCauses, PrintCauses, status_of, status_of_end, fault_told}
+use Rattle.bgpd_top.specs.Outside.{Outside}
+use Rattle.bgpd_top.specs.Status.{IsToldOf}
+use Rattle.bgpd_top.specs.Ending.{status_of, EndsReplay, Counts, CountsOf, Causes}
+use Rattle.bgpd_top.specs.declared.program.Command.{Command}
+use Rattle.bgpd_top.specs.declared.program.Command.TheVariants.{Help, Version, Replay, Check}
 use Rattle.bgpd_top.specs.declared.serving.ServeFault.{ServeFault}
 use Rattle.bgpd_top.specs.declared.serving.ServeFault.TheVariants as fault
+use Rattle.net_base.specs.declared.conf.ConfFault.{ConfFault}
+use Rattle.bgpd_top.specs.declared.status.Status.{Status}
+use Rattle.bgpd_top.specs.declared.status.Status.TheVariants.{Done, Refused, Usage, BadEvent, ReadFault, WriteFault, NoMemory, TooLong}
 
--- a transcript of all events tells how the file ends
-end_told : (end : FileEnd) (file : Option FileEvents) (before after : Option (List ℕ)) → Transcribes end file before after →
-    (all : FileEvents) → file ≡ Some all → status_of_end end ≡ status_of_end all.end
-end_told end None before after t all e = cc
-end_told end (Some found) before after t all e =
-    let same : found ≡ all = cc in
-    let is : found ≡ record { events = events_of t.history; end = end } = t.events in
-    ap (λ (x : FileEvents). status_of_end x.end) (sym is ∙ same)
+pub replay_cause : (outcome : Result (Unit {0}) ServeFault) (events : Option FileEvents) (before after : Option (List ℕ)) →
+    Ends events before after outcome → EndsReplay events (status_of outcome) before after
+replay_cause (Ok done) events before after ends = ends
+replay_cause (Err (fault.BadEvent line)) events before after ends = ends
+replay_cause (Err fault.ReadFault) events before after ends = ends
+replay_cause (Err fault.WriteFault) events before after ends = ends
+replay_cause (Err fault.NoMemory) events before after ends = ends
+replay_cause (Err fault.TooLong) events before after ends = ends
 
-pub causes : (outcome : Result (Unit {0}) ServeFault) (file : Option FileEvents) (before after : Option (List ℕ)) (source source' sink sink' : ℕ) (Told : List ℕ → Type 0) →
-    Ends file before after outcome → CountsServing source source' sink sink' outcome → Told (fault_told outcome) →
-    ReplayCauses (status_of outcome) file before after source source' sink sink' Told
-causes (Ok done) file before after source source' sink sink' Told ends counts told = record {
-  known = inl refl;
-  done = λ _. ends;
-  bad_event = λ e. absurd (omega arith);
-  read_fault = λ e. absurd (omega arith);
-  no_read_fault = λ _. counts.0;
-  write_fault = λ e. absurd (omega arith);
-  no_write_fault = λ _. counts.1;
-  no_memory = λ e. absurd (omega arith);
-  too_long = λ e. absurd (omega arith);
-  complete = λ all e a b c. end_told Ended file before after ends all e;
-}
-causes (Err (fault.BadEvent line)) file before after source source' sink sink' Told ends counts told = record {
-  known = inr (inl refl);
-  done = λ e. absurd (omega arith);
-  bad_event = λ _. (line, ends, told);
-  read_fault = λ e. absurd (omega arith);
-  no_read_fault = λ _. counts.0;
-  write_fault = λ e. absurd (omega arith);
-  no_write_fault = λ _. counts.1;
-  no_memory = λ e. absurd (omega arith);
-  too_long = λ e. absurd (omega arith);
-  complete = λ all e a b c. end_told (BadEvent line) file before after ends all e;
-}
-causes (Err fault.ReadFault) file before after source source' sink sink' Told ends counts told = record {
-  known = inr (inr (inl refl));
-  done = λ e. absurd (omega arith);
-  bad_event = λ e. absurd (omega arith);
-  read_fault = λ _. (counts.0, ends, told);
-  no_read_fault = λ h. absurd (h refl);
-  write_fault = λ e. absurd (omega arith);
-  no_write_fault = λ _. counts.1;
-  no_memory = λ e. absurd (omega arith);
-  too_long = λ e. absurd (omega arith);
-  complete = λ all e a b c. absurd (a refl);
-}
-causes (Err fault.WriteFault) file before after source source' sink sink' Told ends counts told = record {
-  known = inr (inr (inr (inl refl)));
-  done = λ e. absurd (omega arith);
-  bad_event = λ e. absurd (omega arith);
-  read_fault = λ e. absurd (omega arith);
-  no_read_fault = λ _. counts.1;
-  write_fault = λ _. (counts.0, told);
-  no_write_fault = λ h. absurd (h refl);
-  no_memory = λ e. absurd (omega arith);
-  too_long = λ e. absurd (omega arith);
-  complete = λ all e a b c. absurd (b refl);
-}
-causes (Err fault.NoMemory) file before after source source' sink sink' Told ends counts told = record {
-  known = inr (inr (inr (inr (inl refl))));
-  done = λ e. absurd (omega arith);
-  bad_event = λ e. absurd (omega arith);
-  read_fault = λ e. absurd (omega arith);
-  no_read_fault = λ _. counts.0;
-  write_fault = λ e. absurd (omega arith);
-  no_write_fault = λ _. counts.1;
-  no_memory = λ _. told;
-  too_long = λ e. absurd (omega arith);
-  complete = λ all e a b c. absurd (c refl);
-}
-causes (Err fault.TooLong) file before after source source' sink sink' Told ends counts told = record {
-  known = inr (inr (inr (inr (inr refl))));
-  done = λ e. absurd (omega arith);
-  bad_event = λ e. absurd (omega arith);
-  read_fault = λ e. absurd (omega arith);
-  no_read_fault = λ _. counts.0;
-  write_fault = λ e. absurd (omega arith);
-  no_write_fault = λ _. counts.1;
-  no_memory = λ e. absurd (omega arith);
-  too_long = λ _. (ends, told);
-  complete = λ all e a b c. end_told TooLong file before after ends all e;
-}
+pub replay_counts : (outcome : Result (Unit {0}) ServeFault) (source source' sink sink' : ℕ) →
+    CountsServing source source' sink sink' outcome → Counts (status_of outcome) source source' sink sink'
+replay_counts (Ok done) source source' sink sink' counts = counts
+replay_counts (Err (fault.BadEvent line)) source source' sink sink' counts = counts
+replay_counts (Err fault.ReadFault) source source' sink sink' counts = counts
+replay_counts (Err fault.WriteFault) source source' sink sink' counts = counts
+replay_counts (Err fault.NoMemory) source source' sink sink' counts = counts
+replay_counts (Err fault.TooLong) source source' sink sink' counts = counts
 
--- a command that prints a text
-pub prints : (outcome : Result (Unit {0}) ServeFault) (text : List ℕ) (before after : Option (List ℕ)) (source sink sink' : ℕ) →
-    OnOk outcome (after ≡ append_known before text) → IfErr outcome (λ cause. cause ≡ fault.WriteFault) →
-    CountsServing source source sink sink' outcome → PrintCauses (status_of outcome) text before after sink sink'
-prints (Ok done) text before after source sink sink' written cause counts = record { done = λ _. (written, counts.1); write_fault = λ h. absurd (h refl) }
-prints (Err fault.WriteFault) text before after source sink sink' written cause counts = record { done = λ e. absurd (omega arith); write_fault = λ _. (refl, counts.0) }
-prints (Err (fault.BadEvent line)) text before after source sink sink' written cause counts = let never : ⊥ = cc in absurd never
-prints (Err fault.ReadFault) text before after source sink sink' written cause counts = let never : ⊥ = cc in absurd never
-prints (Err fault.NoMemory) text before after source sink sink' written cause counts = let never : ⊥ = cc in absurd never
-prints (Err fault.TooLong) text before after source sink sink' written cause counts = let never : ⊥ = cc in absurd never
+-- what holds of the status found, and of want of memory where a fault of the file was found, holds of the status told
+told_keeps : (P : Status → Type 0) (found told : Status) → IsToldOf found told → P found →
+    ((why : ConfFault) → P (Refused why) → P NoMemory) → P told
+told_keeps P (Refused why) told (inl same) holds lacks = subst P (sym same) holds
+told_keeps P (Refused why) told (inr same) holds lacks = subst P (sym same) (lacks why holds)
+told_keeps P Done told same holds lacks = subst P (sym same) holds
+told_keeps P Usage told same holds lacks = subst P (sym same) holds
+told_keeps P (BadEvent line) told same holds lacks = subst P (sym same) holds
+told_keeps P ReadFault told same holds lacks = subst P (sym same) holds
+told_keeps P WriteFault told same holds lacks = subst P (sym same) holds
+told_keeps P NoMemory told same holds lacks = subst P (sym same) holds
+told_keeps P TooLong told same holds lacks = subst P (sym same) holds
+
+no_memory_cause : (command : Option Command) (content : Option (List ℕ)) (old new : Outside) (why : ConfFault) →
+    Causes command content (Refused why) old new → Causes command content NoMemory old new
+no_memory_cause None content old new why cause = let never : ⊥ = cc in absurd never
+no_memory_cause (Some Help) content old new why cause = absurd cause
+no_memory_cause (Some Version) content old new why cause = absurd cause
+no_memory_cause (Some Replay) content old new why cause = absurd cause
+no_memory_cause (Some (Check verbose)) content old new why cause = cause.1
+
+no_memory_counts : (command : Option Command) (old new : Outside) (why : ConfFault) → CountsOf command (Refused why) old new → CountsOf command NoMemory old new
+no_memory_counts None old new why counts = counts
+no_memory_counts (Some Help) old new why counts = counts
+no_memory_counts (Some Version) old new why counts = counts
+no_memory_counts (Some Replay) old new why counts = counts
+no_memory_counts (Some (Check verbose)) old new why counts = counts
+
+pub told_cause : (command : Option Command) (content : Option (List ℕ)) (old new : Outside) (found told : Status) → IsToldOf found told →
+    Causes command content found old new → Causes command content told old new
+told_cause command content old new found told is cause =
+    told_keeps (λ status. Causes command content status old new) found told is cause (no_memory_cause command content old new)
+
+pub told_counts : (command : Option Command) (old new : Outside) (found told : Status) → IsToldOf found told →
+    CountsOf command found old new → CountsOf command told old new
+told_counts command old new found told is counts =
+    told_keeps (λ status. CountsOf command status old new) found told is counts (no_memory_counts command old new)

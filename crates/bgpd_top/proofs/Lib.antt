@@ -1,5 +1,6 @@
+mod Asking
 mod Causes
-mod CheckStatuses
+mod Checked
 mod Coming
 mod FrontOfText
 mod Replaying

@@ -2,7 +2,6 @@
 use Rattle.std.proofs.Common.{◌≡◌, ℕ, false, List, [], ◌∷◌, ◌++◌, fold, Option, None, Some, option_map, IfSome, Result, Ok, Err, refl, sym, ap, ◌∙◌, append_assoc, append-nil}
 use Rattle.std.specs.Io.KnownBytes.{append_known}
 use Rattle.core_msgs.specs.declared.event.Event.{Event}
-use Rattle.core_msgs.specs.declared.answer.Answer.{Answer}
 use Rattle.core_msgs.specs.declared.answer.Line.{Line}
 use Rattle.event_text.specs.Grammar.{FileEnd, FileEvents, no_more, with_event}
 use Rattle.event_text.specs.Grammar as file
@@ -11,11 +10,11 @@ use Rattle.run_record.specs.Answers.{IsRun}
 use Rattle.cores_link.specs.declared.router.Router.{Router}
 use Rattle.bgpd_top.specs.World.{Talk, Gave, Closed, Noted, Heard, Passed}
 use Rattle.bgpd_top.specs.Transcript.{events_of, text_of, with_events, Transcribes, TranscribesFront}
-use Rattle.bgpd_top.specs.Serving.{Turn, talk_of, transcript_of, with_line, with_answer, after, AreAnswered, ServedAll, end_told, Ends, CountsFaults, CountsServing}
+use Rattle.bgpd_top.specs.Serving.{Turn, talk_of, transcript_of, with_line, after, AreAnswered, ServedAll, end_told, Ends, CountsFaults, CountsServing}
 use Rattle.bgpd_top.specs.ReplayWorlds.{PassesFile, EndsSo}
 use Rattle.bgpd_top.proofs.ServingLemmas.{transcript-answer}
 use Rattle.bgpd_top.specs.declared.world.WorldEnd.{WorldEnd}
-use Rattle.bgpd_top.specs.declared.world.WorldEnd.TheVariants.{Open, Ended, Failed}
+use Rattle.bgpd_top.specs.declared.world.WorldEnd.TheVariants.{Ended, Failed}
 use Rattle.bgpd_top.specs.declared.world.WorldFault.TheVariants as world
 use Rattle.bgpd_top.specs.declared.serving.ServeFault.{ServeFault}
 use Rattle.bgpd_top.specs.declared.serving.ServeFault.TheVariants as fault

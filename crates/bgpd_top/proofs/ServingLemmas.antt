@@ -8,11 +8,11 @@ use Rattle.event_text.specs.Lines.{answer_text, ended_line}
 use Rattle.run_record.specs.Run.{History}
 use Rattle.cores_link.specs.declared.router.Router.{Router}
 use Rattle.cores_link.specs.Routers.{Stands}
-use Rattle.bgpd_top.specs.World.{Talk, Gave, Closed, Noted, Heard, Passed, said_by, end_behind}
-use Rattle.bgpd_top.specs.Serving.{Turn, talk_of, transcript_of, with_line, with_answer, after, Served, ServedAll, end_told, failure_of}
+use Rattle.bgpd_top.specs.World.{Talk, Gave, Closed, Noted, Heard, said_by, end_behind}
+use Rattle.bgpd_top.specs.Serving.{Turn, talk_of, transcript_of, with_line, with_answer, after, Served, ServedAll, failure_of}
 use Rattle.bgpd_top.specs.ServeCauses.{EventServed, NotedBehind, AnswersNext, end_next, of_world}
 use Rattle.bgpd_top.specs.declared.world.WorldEnd.{WorldEnd}
-use Rattle.bgpd_top.specs.declared.world.WorldEnd.TheVariants.{Open, Ended, Failed}
+use Rattle.bgpd_top.specs.declared.world.WorldEnd.TheVariants.{Failed}
 use Rattle.bgpd_top.specs.declared.world.WorldFault.{WorldFault}
 use Rattle.bgpd_top.specs.declared.world.WorldFault.TheVariants as world
 use Rattle.bgpd_top.specs.declared.serving.ServeFault.{ServeFault}

@@ -1,11 +1,14 @@
 pub mod Ahead
 pub mod Checking
 pub mod Command
+pub mod Ending
 pub mod Faults
+pub mod Outside
 pub mod Reader
 pub mod ReplayWorlds
 pub mod ServeCauses
 pub mod Serving
+pub mod Status
 pub mod Transcript
 pub mod Words
 pub mod World

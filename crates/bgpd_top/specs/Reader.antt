@@ -1,9 +1,9 @@
 -- What a reader of events has still to give.
-use Rattle.std.specs.Prelude.{◌≡◌, ℕ, ◌-◌, Bool, false, List, ◌∷◌, Option, None, Some, option_map, ◌⊎◌}
+use Rattle.std.specs.Prelude.{◌≡◌, ℕ, ◌-◌, Bool, true, false, ◌||◌, List, ◌∷◌, Option, None, Some, option_map, ◌⊎◌}
 use Rattle.io_edge.specs.declared.lines.LineFault.{LineFault}
 use Rattle.io_edge.specs.declared.lines.LineFault.TheVariants.{LineTooLong, FileTooLong}
-use Rattle.io_edge.specs.Reading.{lines_ahead, fault_ahead, Ends}
-use Rattle.event_text.specs.Grammar.{FileEvents}
+use Rattle.io_edge.specs.Reading.{lines_ahead, fault_ahead, whole_line, Ends}
+use Rattle.event_text.specs.Grammar.{FileEvents, is_skipped, is_reload}
 use Rattle.event_text.specs.declared.event.LinesHeld.{LinesHeld}
 use Rattle.bgpd_top.specs.Ahead.{events_to_come, events_of_file, held_then_come}
 use Rattle.bgpd_top.specs.declared.replay.EventReader.{EventReader}
@@ -26,6 +26,18 @@ reader_passed r = r.lines.passed
 -- a fault ended the reading
 abbrev pub is_spent_reader : EventReader → Bool
 is_spent_reader r = r.lines.spent
+
+-- the next line, where it came whole already
+abbrev pub reader_front : EventReader → Option (List ℕ)
+reader_front r = whole_line r.lines
+
+-- whether the next event may want a read of the source: no line of its own came whole, or others follow
+abbrev pub asks_behind : Option (List ℕ) → Bool
+asks_behind None = true
+asks_behind (Some line) = is_skipped line || is_reload line
+
+abbrev pub reader_asks : EventReader → Bool
+reader_asks r = asks_behind (reader_front r)
 
 -- the events to come, outside of a configuration's text
 abbrev pub to_come : EventReader → Option (List ℕ) → Option FileEvents

@@ -1,11 +1,10 @@
 -- What passes with the world of an event file.
-use Rattle.std.specs.Prelude.{◌≡◌, ℕ, List, [], Option, option_map, IfSome}
+use Rattle.std.specs.Prelude.{◌≡◌, [], Option, option_map, IfSome}
 use Rattle.event_text.specs.Grammar.{FileEvents, no_more, with_event}
 use Rattle.event_text.specs.Grammar as file
 use Rattle.bgpd_top.specs.World.{Talk, Gave, Closed, Noted, Heard}
 use Rattle.bgpd_top.specs.declared.world.WorldEnd.{WorldEnd}
 use Rattle.bgpd_top.specs.declared.world.WorldEnd.TheVariants.{Open, Ended, Failed}
-use Rattle.bgpd_top.specs.declared.world.WorldFault.{WorldFault}
 use Rattle.bgpd_top.specs.declared.world.WorldFault.TheVariants.{BadEvent, ReadFault, TooLong, NoMemory}
 
 -- the file ends so

@@ -15,7 +15,7 @@ use Rattle.cores_link.specs.Routers.{Stands}
 use Rattle.bgpd_top.specs.World.{Talk, Gave, Closed, Noted, Heard, Passed}
 use Rattle.bgpd_top.specs.Transcript.{Transcribes, TranscribesFront}
 use Rattle.bgpd_top.specs.declared.world.WorldEnd.{WorldEnd}
-use Rattle.bgpd_top.specs.declared.world.WorldEnd.TheVariants.{Open, Ended, Failed}
+use Rattle.bgpd_top.specs.declared.world.WorldEnd.TheVariants.{Ended, Failed}
 use Rattle.bgpd_top.specs.declared.world.WorldFault.TheVariants as world
 use Rattle.bgpd_top.specs.declared.serving.ServeFault.{ServeFault}
 use Rattle.bgpd_top.specs.declared.serving.ServeFault.TheVariants as fault

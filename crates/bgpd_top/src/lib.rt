@@ -6,13 +6,14 @@ mod program;
 mod replay;
 mod replay_world;
 mod serving;
+mod status;
 mod world;
 
-pub use checking::{CheckFault, check_file};
 pub use program::{Command, bgpd_main};
 pub use replay::EventReader;
 pub use replay_world::ReplayWorld;
 pub use serving::{ServeFault, serve};
+pub use status::Status;
 pub use world::{World, WorldEnd, WorldFault};
 
 #[cfg(test)]

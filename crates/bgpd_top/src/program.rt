@@ -1,19 +1,17 @@
-ghost use Rattle.std.specs.Prelude.{◌≡◌, ◌↔◌, ℕ, Bool, List, Some, None, Ok, Err, map, codes, option_map, OnOk, IfErr, string_bytes};
-ghost use Rattle.std.specs.Io.KnownBytes.{append_known};
-ghost use Rattle.io_edge.specs.Faults.{CountsFailure};
+ghost use Rattle.std.specs.Prelude.{◌≡◌, ℕ, List, Option, Some, None, Ok, Err, map, option_map, string_bytes};
 ghost use Rattle.bgpd_top.specs.Ahead.{events_of_file};
 ghost use Rattle.bgpd_top.specs.Serving.{Ends, CountsServing};
-ghost use Rattle.bgpd_top.specs.Command.{word_command, check_command, verbose_command, command_of, file_named, status_of, fault_text, Tells, ReplayCauses, PrintCauses};
-ghost use Rattle.bgpd_top.specs.Checking.{CheckCauses};
-ghost use Rattle.bgpd_top.specs.Words.{usage_text, help_text, version_text};
+ghost use Rattle.bgpd_top.specs.Command.{word_command, check_command, verbose_command, command_of, file_named};
+ghost use Rattle.bgpd_top.specs.Ending.{status_of, EndsReplay, Counts, CountsOf, Causes, EndsBy, ReadsNoFile, ReadsNoInput};
+ghost use Rattle.bgpd_top.specs.Outside.{outside, error_output};
 
-use crate::checking::check_file;
+use crate::checking::{check_file, write_text};
 use crate::replay::EventReader;
 use crate::replay_world::ReplayWorld;
 use crate::serving::{ServeFault, serve};
+use crate::status::{Status, tell};
 use cores_link::Router;
-use io_edge::{Clock, Failed, Files, PeerNet, Sink, Source};
-use itoa::Buffer;
+use io_edge::{Clock, Files, PeerNet, Sink, Source};
 use kroute::Kernel;
 use std::alloc::Global;
 
@@ -30,25 +28,32 @@ pub enum Command {
     Check(bool),
 }
 
-/// What stands on standard error where the words fit no command.
-const USAGE: &str =
-    "usage: bgpd replay\n       bgpd -n [-v] -f FILE\n       bgpd --help\n       bgpd --version\n";
-
 /// What `--help` prints.
-const HELP: &str =
-    "bgpd replay\n    reads events from standard input and writes their transcript to standard output\nbgpd -n [-v] -f FILE\n    checks a configuration file; with -v prints its canonical text first\nbgpd --version\n    prints the version\n";
+const HELP: &str = "bgpd replay
+    reads events from standard input and writes their transcript to standard output
+bgpd -n [-v] -f FILE
+    checks a configuration file; with -v prints its canonical text first
+bgpd --help
+    prints this text
+bgpd --version
+    prints the version
+
+The status is 0 where the command is done, 1 where the configuration file has a fault, 2 where the words fit no
+command, 3 where a line of the event file isn't an event, 4 where the input failed, 5 where the output failed, 7 where
+memory ran out, and 8 where the event file or a line of it is too long. A text on standard error says which.
+
+docs/EVENTS.md says what event files and transcripts are, docs/CONFIGURATION.md and docs/POLICY.md what a
+configuration is.
+";
 
 /// What `--version` prints.
 const VERSION: &str = "bgpd 0.1\n";
 
-/// The program `bgpd` over the objects that it is handed; the answer is its status.
+/// The program `bgpd` over the objects that it is handed; the answer is the code of its `Status`, which says when
+/// each comes and what stands on standard error.
 ///
-/// 0: the command is done. 1: the configuration file has a fault, which `FILE:LINE: KIND` tells. 2: the words fit no
-/// command, which the usage on `err` tells. 3: a line isn't of the grammar of events, which `line N: bad event` tells.
-/// 4: the source failed or the file couldn't be read, `read fault`. 5: the sink `out` failed, `write fault`. 7: memory ran
-/// out, `no memory`. 8: a line or the file is past its limit, `too long`. A fault of `err` changes no status. Nothing is
-/// used of the nets, the kernel and the clock yet.
-#[tactic(auto)]
+/// A fault of standard error changes no status. A command uses nothing that it doesn't need: the nets, the kernel and
+/// the clock stay as they are, the files but for a check, and standard input but for `replay`.
 pub fn bgpd_main<F: Files, I: Source, O: Sink, E: Sink, N: PeerNet, K: Kernel, C: Clock>(
     alloc: Global,
     words: &[String],
@@ -56,44 +61,60 @@ pub fn bgpd_main<F: Files, I: Source, O: Sink, E: Sink, N: PeerNet, K: Kernel, C
     input: &mut I,
     out: &mut O,
     err: &mut E,
-    _net: &mut N,
-    _other: &mut N,
-    _kernel: &mut K,
-    _clock: &mut C,
+    net: &mut N,
+    other: &mut N,
+    kernel: &mut K,
+    clock: &mut C,
 ) -> u8
-    // The words fit no command.
-    ensures usage { (result ≡ 2) ↔ (command_of (map string_bytes words.now) ≡ None) }
+    // Each status with its cause and its text.
+    ensures ends { EndsBy (command_of (map string_bytes words.now)) (file_named (map string_bytes words.now))
+        (F.content files.old (file_named (map string_bytes words.now))) result
+        (outside (I.left input.old) (O.written out.old) (F.faults files.old) (I.faults input.old) (O.faults out.old))
+        (outside (I.left input.new) (O.written out.new) (F.faults files.new) (I.faults input.new) (O.faults out.new))
+        (error_output (E.written err.old) (E.faults err.old)) (error_output (E.written err.new) (E.faults err.new)) }
 
-    // Each status of `replay` with its cause.
-    ensures replay { command_of (map string_bytes words.now) ≡ Some Command.Replay →
-        ReplayCauses result (option_map events_of_file (I.left input.old)) (O.written out.old) (O.written out.new)
-        (I.faults input.old) (I.faults input.new) (O.faults out.old) (O.faults out.new)
-        (Tells (E.faults err.old) (E.faults err.new) (E.written err.old) (E.written err.new)) }
-
-    // Each status of a check with its cause.
-    ensures check { (verbose : Bool) → command_of (map string_bytes words.now) ≡ Some (Command.Check verbose) →
-        CheckCauses result verbose (file_named (map string_bytes words.now)) (F.content files.old (file_named (map string_bytes words.now)))
-        (O.written out.old) (O.written out.new) (F.faults files.old) (F.faults files.new) (O.faults out.old) (O.faults out.new)
-        (Tells (E.faults err.old) (E.faults err.new) (E.written err.old) (E.written err.new)) }
-
-    // What the other commands print.
-    ensures shown { result ≡ 2 → Tells (E.faults err.old) (E.faults err.new) (E.written err.old) (E.written err.new) usage_text }
-    ensures help { command_of (map string_bytes words.now) ≡ Some Command.Help →
-        PrintCauses result help_text (O.written out.old) (O.written out.new) (O.faults out.old) (O.faults out.new) }
-    ensures version { command_of (map string_bytes words.now) ≡ Some Command.Version →
-        PrintCauses result version_text (O.written out.old) (O.written out.new) (O.faults out.old) (O.faults out.new) }
+    // What a command doesn't use stays as it is.
+    ensures files { ReadsNoFile (command_of (map string_bytes words.now)) → files.new ≡ files.old }
+    ensures input { ReadsNoInput (command_of (map string_bytes words.now)) → input.new ≡ input.old }
+    ensures nets { (net.new ≡ net.old) × (other.new ≡ other.old) }
+    ensures kernel { kernel.new ≡ kernel.old }
+    ensures clock { clock.new ≡ clock.old }
 {
-    match command_of(words) {
-        Some(Command::Help) => print_text(out, err, HELP),
-        Some(Command::Version) => print_text(out, err, VERSION),
-        Some(Command::Replay) => replay(alloc, input, out, err),
-        Some(Command::Check(verbose)) => {
-            check_file(alloc, verbose, file_named(words), files, out, err)
-        }
-        None => {
-            let _ = err.write(USAGE.as_bytes());
-            2
-        }
+    let status = run(
+        alloc,
+        command_of(words),
+        file_named(words),
+        files,
+        input,
+        out,
+    );
+    tell(alloc, err, file_named(words), status).code()
+}
+
+/// Runs a command, on the file of this name where it has one.
+fn run<F: Files, I: Source, O: Sink>(
+    alloc: Global,
+    command: Option<Command>,
+    name: &str,
+    files: &mut F,
+    input: &mut I,
+    out: &mut O,
+) -> Status
+    ensures cause { Causes command (F.content files.old name.now) result
+        (outside (I.left input.old) (O.written out.old) (F.faults files.old) (I.faults input.old) (O.faults out.old))
+        (outside (I.left input.new) (O.written out.new) (F.faults files.new) (I.faults input.new) (O.faults out.new)) }
+    ensures counts { CountsOf command result
+        (outside (I.left input.old) (O.written out.old) (F.faults files.old) (I.faults input.old) (O.faults out.old))
+        (outside (I.left input.new) (O.written out.new) (F.faults files.new) (I.faults input.new) (O.faults out.new)) }
+    ensures files { ReadsNoFile command → files.new ≡ files.old }
+    ensures input { ReadsNoInput command → input.new ≡ input.old }
+{
+    match command {
+        None => Status::Usage,
+        Some(Command::Help) => write_text(out, HELP.as_bytes()),
+        Some(Command::Version) => write_text(out, VERSION.as_bytes()),
+        Some(Command::Replay) => replay(alloc, input, out),
+        Some(Command::Check(verbose)) => check_file(alloc, verbose, name, files, out),
     }
 }
 
@@ -106,15 +127,6 @@ fn file_named(words: &[String]) -> &str
         [_, _, _, file] => file.as_str(),
         _ => "",
     }
-}
-
-/// Tells a fault on standard error, and answers its status.
-fn fault_status<E: Sink>(err: &mut E, fault: ServeFault) -> u8
-    ensures status { result ≡ status_of (Err fault) }
-    ensures told { Tells (E.faults err.old) (E.faults err.new) (E.written err.old) (E.written err.new) (fault_text fault) }
-{
-    let _ = report(err, fault);
-    status_of(fault)
 }
 
 fn command_of(words: &[String]) -> Option<Command>
@@ -166,37 +178,15 @@ fn word_command(word: &[u8]) -> Option<Command>
     }
 }
 
-/// Prints a text; the answer is the status of the program.
-fn print_text<O: Sink, E: Sink>(out: &mut O, err: &mut E, text: &str) -> u8
-    ensures { PrintCauses result text.now (O.written out.old) (O.written out.new) (O.faults out.old) (O.faults out.new) }
-{
-    match write_text(out, text) {
-        Ok(()) => 0,
-        Err(fault) => fault_status(err, fault),
-    }
-}
-
-fn write_text<O: Sink>(out: &mut O, text: &str) -> Result<(), ServeFault>
-    ensures written { OnOk result (O.written out.new ≡ append_known (O.written out.old) text.now) }
-    ensures fault { IfErr result (λ cause. cause ≡ ServeFault.WriteFault) }
-    ensures counts { (n : ℕ) → CountsServing n n (O.faults out.old) (O.faults out.new) result }
-{
-    match out.write(text.as_bytes()) {
-        Ok(()) => Ok(()),
-        Err(_) => Err(ServeFault::WriteFault),
-    }
-}
-
-/// Serves the events of a source from its beginning; the answer is the status of the program.
-#[tactic(auto, using(crate::proofs::Causes::causes, crate::proofs::ServingLemmas::append_none))]
-fn replay<I: Source, O: Sink, E: Sink>(alloc: Global, input: &mut I, out: &mut O, err: &mut E) -> u8
-    ensures { ReplayCauses result (option_map events_of_file (I.left input.old)) (O.written out.old) (O.written out.new)
-        (I.faults input.old) (I.faults input.new) (O.faults out.old) (O.faults out.new)
-        (Tells (E.faults err.old) (E.faults err.new) (E.written err.old) (E.written err.new)) }
+/// Serves the events of a source from its beginning.
+#[tactic(auto, using(crate::proofs::Causes::replay_cause, crate::proofs::Causes::replay_counts))]
+fn replay<I: Source, O: Sink>(alloc: Global, input: &mut I, out: &mut O) -> Status
+    ensures cause { EndsReplay (option_map events_of_file (I.left input.old)) result (O.written out.old) (O.written out.new) }
+    ensures counts { Counts result (I.faults input.old) (I.faults input.new) (O.faults out.old) (O.faults out.new) }
 {
     match serve_events(alloc, input, out) {
-        Ok(()) => 0,
-        Err(fault) => fault_status(err, fault),
+        Ok(()) => Status::Done,
+        Err(fault) => status_of(fault),
     }
 }
 
@@ -219,41 +209,15 @@ fn serve_events<I: Source, O: Sink>(
     serve(alloc, &mut router, &mut world, out)
 }
 
-/// The status of the program behind a fault.
-fn status_of(fault: ServeFault) -> u8
+/// The status behind a fault of serving.
+fn status_of(fault: ServeFault) -> Status
     ensures { result ≡ status_of (Err fault) }
 {
     match fault {
-        ServeFault::BadEvent(_) => 3,
-        ServeFault::ReadFault => 4,
-        ServeFault::WriteFault => 5,
-        ServeFault::NoMemory => 7,
-        ServeFault::TooLong => 8,
+        ServeFault::BadEvent(line) => Status::BadEvent(line),
+        ServeFault::ReadFault => Status::ReadFault,
+        ServeFault::WriteFault => Status::WriteFault,
+        ServeFault::NoMemory => Status::NoMemory,
+        ServeFault::TooLong => Status::TooLong,
     }
-}
-
-/// Tells a fault on standard error.
-fn report<E: Sink>(err: &mut E, fault: ServeFault) -> Result<(), Failed>
-    ensures told { OnOk result (E.written err.new ≡ append_known (E.written err.old) (fault_text fault)) }
-    ensures count { CountsFailure (E.faults err.old) (E.faults err.new) result }
-{
-    match fault {
-        ServeFault::BadEvent(line) => report_line(err, line),
-        ServeFault::ReadFault => err.write(b"read fault\n"),
-        ServeFault::WriteFault => err.write(b"write fault\n"),
-        ServeFault::NoMemory => err.write(b"no memory\n"),
-        ServeFault::TooLong => err.write(b"too long\n"),
-    }
-}
-
-fn report_line<E: Sink>(err: &mut E, line: u32) -> Result<(), Failed>
-    ensures told { OnOk result (E.written err.new ≡ append_known (E.written err.old) (fault_text (ServeFault.BadEvent line))) }
-    ensures count { CountsFailure (E.faults err.old) (E.faults err.new) result }
-{
-    let mut buffer = Buffer::new();
-    let number = buffer.format(line);
-    err.write(b"line ")?;
-    err.write(number.as_bytes())?;
-    err.write(b": bad event\n")?;
-    Ok(())
 }

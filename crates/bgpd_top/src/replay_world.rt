@@ -1,7 +1,7 @@
 // The world of an event file.
 ghost use Rattle.std.specs.Prelude.{◌≡◌, ◌≤◌, [], ◌∷◌, true, false};
 ghost use Rattle.io_edge.specs.FileLines.{file_limit};
-ghost use Rattle.bgpd_top.specs.Reader.{reader_count, is_spent_reader, to_come};
+ghost use Rattle.bgpd_top.specs.Reader.{reader_count, reader_asks, is_spent_reader, to_come};
 ghost use Rattle.bgpd_top.specs.ReplayWorlds.{PassesFile};
 ghost use Rattle.bgpd_top.specs.declared.world.WorldEnd.TheVariants.{Open};
 
@@ -53,7 +53,7 @@ impl<S: Source> World for ReplayWorld<'_, S> {
 
     ghost end = { λ world. world.end };
 
-    ghost asks = { λ _. true };
+    ghost asks = { λ world. reader_asks world.reader.now };
 
     ghost faults = { λ world. S.faults world.source.now };
 
@@ -86,6 +86,6 @@ impl<S: Source> World for ReplayWorld<'_, S> {
     }
 
     fn asks(&self) -> bool {
-        true
+        self.reader.asks()
     }
 }

@@ -2,6 +2,7 @@
 use Rattle.std.specs.Prelude.{◌≡◌, ℕ, ◌+◌, Bool, false, ◌∷◌, length, Option, Some, None}
 use Rattle.core_msgs.specs.declared.event.Event.{Event}
 use Rattle.core_msgs.specs.declared.answer.Answer.{Answer}
+use Rattle.core_msgs.specs.declared.event.Event.TheVariants as event
 use Rattle.core_msgs.specs.declared.parts.Part.TheVariants.{Reload}
 use Rattle.run_record.specs.Run.{History}
 use Rattle.run_record.specs.Answers.{Answers, step}
@@ -37,6 +38,11 @@ pub record OnlyCounts (old new : Router) (event : Event) : Type 0 where
   pub events : new.events ≡ old.events + 1
   pub size : new.size ≡ with_size old.size event
   pub spent : new.spent ≡ old.spent
+
+-- the event is a reload
+abbrev pub IsReload : Event → Type 0
+IsReload (event.Reload text) = Unit {0}
+IsReload _ = ⊥
 
 -- what is left to do by what is under way
 abbrev pub quiet_of : Option ℕ → Quiet

@@ -1,5 +1,5 @@
 ghost use Rattle.run_record.specs.Answers.{IsRefusal};
-ghost use Rattle.std.specs.Prelude.{◌≡◌, ◌+◌, ◌<◌, ◌≤◌, ◌^◌, ◌∷◌, [], true, map, IfOk, IsTrue, ◌↔◌};
+ghost use Rattle.std.specs.Prelude.{◌≡◌, ◌+◌, ◌<◌, ◌≤◌, ◌^◌, ◌∷◌, [], true, map, IfOk, IsOk, IsTrue, ◌↔◌};
 ghost use Rattle.run_record.specs.Answers.{only, refused, reload_reports, are_show_rib, AnswersShowRib};
 
 use crate::reader;
@@ -23,6 +23,7 @@ pub struct Accepted {
 impl Accepted {
     ghost use Rattle.cores_link.specs.Generations.{accepted_generation};
     ghost use Rattle.cores_link.specs.Standing.{AcceptedBy, Follows};
+    ghost use Rattle.cores_link.specs.Routers.{IsReload};
     ghost use Rattle.core_msgs.specs.declared.event.Event.TheVariants.{Reload, Settle, Ctl};
     ghost use Rattle.run_record.specs.Run.{History, under_way};
 
@@ -48,11 +49,12 @@ impl Accepted {
         }
     }
 
-    /// Answers an event.
+    /// Answers an event. A reload is always answered.
     pub fn answer(&mut self, alloc: Global, event: &Event) -> Result<Answer, NoMemory>
         requires { accepted_generation self.old + 1 < 2 ^ 32 }
         ensures follows { IfOk result (Follows self.old self.new event.now) }
         ensures refused { IfOk result (λ answer. IsRefusal answer → self.new ≡ self.old) }
+        ensures reload { IsReload event.now → IsOk result }
         ensures counted { accepted_generation self.new ≤ accepted_generation self.old + 1 }
     {
         match event {

@@ -1,6 +1,6 @@
 ghost use Rattle.cores_link.specs.Generations.{accepted_generation};
 ghost use Rattle.run_record.specs.Answers.{IsRefusal};
-ghost use Rattle.std.specs.Prelude.{◌≡◌, ◌+◌, ◌<◌, ◌≤◌, ◌^◌, ◌∷◌, [], IfOk, OnOk, OnErr, false, IsErrOf, IsTrue, ◌↔◌};
+ghost use Rattle.std.specs.Prelude.{◌≡◌, ◌+◌, ◌<◌, ◌≤◌, ◌^◌, ◌∷◌, [], IfOk, OnOk, OnErr, IsOk, false, IsErrOf, IsTrue, ◌↔◌};
 
 use crate::accepted::Accepted;
 use core_msgs::{Answer, Event, Part};
@@ -50,7 +50,7 @@ pub struct Router {
 }
 
 impl Router {
-    ghost use Rattle.cores_link.specs.Routers.{Stands, StandsAfter, events_taken, is_spent, OnlyCounts, quiet_of};
+    ghost use Rattle.cores_link.specs.Routers.{Stands, StandsAfter, events_taken, is_spent, IsReload, OnlyCounts, quiet_of};
     ghost use Rattle.run_record.specs.Run.{History, under_way};
 
     /// A Router before its first event, with the empty configuration.
@@ -94,11 +94,13 @@ impl Router {
     ///
     /// Whatever happened before, the answer is one of those that the event may have behind it. A refused reload
     /// leaves everything as it was but the counts of events and of their size. `NoMemory` leaves the Router spent,
-    /// and a spent Router answers `Spent` and stays as it is.
+    /// and a spent Router answers `Spent` and stays as it is. A reload is always answered: want of memory in the
+    /// reading of its text refuses that reload alone.
     pub fn step(&mut self, event: &Event) -> Result<Answer, RouterFault>
         requires { events_taken self.old < 2 ^ 31 }
         ensures history { IfOk result (λ answer. (h : History) → Stands self.old h → StandsAfter self.new h event.now answer) }
         ensures refused { IfOk result (λ answer. IsRefusal answer → OnlyCounts self.old self.new event.now) }
+        ensures reload { IsReload event.now → is_spent self.old ≡ false → IsOk result }
         ensures events { IfOk result (λ answer. events_taken self.new ≡ events_taken self.old + 1) }
         ensures live { OnOk result (is_spent self.new ≡ false) }
         ensures spent { OnErr result (IsTrue (is_spent self.new)) }

@@ -11,7 +11,7 @@ returns-in_err-event-clause-bad_event g c = λ number e.
     let at_head = rw c.in-Some.is at c.in_ok-head.ensures.head in
     let same : p.0 ≡ BadEvent number = cc in
     let is_bad : c.in_err-event.field-0.0 ≡ BadEvent number = sym p.2 ∙ same in
-    bad_event_comes _ c.in-Some.head (reader_count c.next_head.new.self) number c.new-held.result c.fill.new.held
-    (reader_lines c.next_head.new.self (g.S.Source.left c.next_head.new.source)) (reader_lines c.fill.new.self (g.S.Source.left c.fill.new.source))
-    (reader_fault c.next_head.new.self (g.S.Source.left c.next_head.new.source)) (reader_fault c.fill.new.self (g.S.Source.left c.fill.new.source))
-    at_head c.new-held.ensures c.in_ok-fill.ensures.same (c.in_err-event.ensures.bad_event number (ap Err is_bad)) c.in_ok-fill.ensures.whole
+    bad_event_comes _ c.in-Some.head (reader_count c.next_head.new.self) number c.new-held.result c.complete.new.held
+    (reader_lines c.next_head.new.self (g.S.Source.left c.next_head.new.source)) (reader_lines c.complete.new.self (g.S.Source.left c.complete.new.source))
+    (reader_fault c.next_head.new.self (g.S.Source.left c.next_head.new.source)) (reader_fault c.complete.new.self (g.S.Source.left c.complete.new.source))
+    at_head c.new-held.ensures c.in_ok-complete.ensures.same (c.in_err-event.ensures.bad_event number (ap Err is_bad)) c.in_ok-complete.ensures.whole

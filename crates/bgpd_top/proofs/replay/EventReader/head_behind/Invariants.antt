@@ -1,7 +1,7 @@
 use Rattle.std.proofs.Common.{◌≡◌, ◌-◌, ◌≤◌, false}
 use Rattle.io_edge.specs.FileLines.{file_limit}
 use Rattle.bgpd_top.specs.Reader.{is_spent_reader, reader_passed, reader_count, to_come}
-use Rattle.bgpd_top.proofs.replay.EventReader.next_head.Given as goal
+use Rattle.bgpd_top.proofs.replay.EventReader.head_behind.Given as goal
 
 -- the lines passed over leave the events to come as they were
 abbrev pub invariant-loop-line : goal.invariant-loop-line

@@ -1,7 +1,7 @@
 use Rattle.std.proofs.Common.{ap, ◌∙◌, codes, decimal}
 use Rattle.std.specs.Io.KnownBytes.{append_known}
 use Rattle.bgpd_top.proofs.ServingLemmas.{append_thrice}
-use Rattle.bgpd_top.proofs.program.report_line.Goals as goal
+use Rattle.bgpd_top.proofs.status.write_bad_event.Goals as goal
 
 pub returns-clause-told : goal.returns-clause-told
 returns-clause-told g c =
