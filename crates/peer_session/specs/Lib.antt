@@ -1,0 +1,5 @@
+pub mod Neighbour
+pub mod Frames
+pub mod Hearing
+pub mod Steps
+pub mod Calls
