@@ -1,2 +1,2 @@
-mod Short
-mod ReadBack
+pub mod Short
+pub mod ReadBack

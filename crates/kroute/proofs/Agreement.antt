@@ -69,7 +69,7 @@ other_taken (e ∷ es) p q apart = go (other_taken es p q apart) (is_eq (prefix_
     go rec true same = sym (ap (λ (b : Bool). cond b (Some e.1) (row_at es q)) (ap (λ (r : Prefix). is_eq (prefix_cmp q r)) (sym (prefix_cmp-Equal p e.0 same)) ∙ apart))
     go rec false same = ap (cond (is_eq (prefix_cmp q e.0)) (Some e.1)) rec
 
-fits_decoupled : (phase : Phase) (wanted rows : Rows) → Fits phase wanted rows → Fits (decouples (record { wanted = wanted; phase = phase })).phase wanted rows
+pub fits_decoupled : (phase : Phase) (wanted rows : Rows) → Fits phase wanted rows → Fits (decouples (record { wanted = wanted; phase = phase })).phase wanted rows
 fits_decoupled New wanted rows fits = tt
 fits_decoupled (Listing coupled) wanted rows fits = tt
 fits_decoupled (Coupled known job) wanted rows fits = record { by_prefix = fits.by_prefix; are_left = fits.are_known }

@@ -1,4 +1,4 @@
 mod Order
 mod Steps
 mod Lists
-mod Agreement
+pub mod Agreement

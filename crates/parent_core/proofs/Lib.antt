@@ -1,0 +1,4 @@
+mod Taking
+mod Following
+mod Settling
+mod Answering

@@ -1,0 +1,5 @@
+use Rattle.parent_core.proofs.Following.{frame_follows}
+use Rattle.parent_core.proofs.parent.Parent.frame.Goals as goal
+
+pub returns-in-Ok-clause-history : goal.returns-in-Ok-clause-history
+returns-in-Ok-clause-history c = frame_follows c.args.frame c.args.self.now _ c.in-Ok.done c.in-Ok.ensures.taken

@@ -1,0 +1,9 @@
+pub mod Frames
+pub mod Refusals
+pub mod Reloads
+pub mod KernelTables
+pub mod State
+pub mod Calls
+pub mod History
+pub mod Runs
+pub mod Answered
