@@ -152,7 +152,7 @@ fn stage(
 ) -> Result<Done, SessionRefusal> {
     core.frame(Frame::Begin {
         generation,
-        length: text.len() as u32,
+        length: u32::try_from(text.len()).unwrap_or(0),
     })?;
     core.frame(Frame::Piece(Items::from_slice(alloc, text)?))?;
     core.frame(Frame::Commit(generation))
