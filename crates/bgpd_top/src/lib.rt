@@ -15,8 +15,3 @@ pub use replay_world::ReplayWorld;
 pub use serving::{ServeFault, serve};
 pub use status::Status;
 pub use world::{World, WorldEnd, WorldFault};
-
-#[cfg(test)]
-mod check_tests;
-#[cfg(test)]
-mod tests;

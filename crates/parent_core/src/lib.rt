@@ -15,6 +15,3 @@ pub use laws::{
 };
 pub use parent::Parent;
 pub use reloads::{Reloads, Stage};
-
-#[cfg(test)]
-mod tests;

@@ -10,6 +10,3 @@ mod update_message;
 pub use neighbour::{NeighbourSession, Settings};
 pub use refusal::SessionRefusal;
 pub use update_message::UpdateMessage;
-
-#[cfg(test)]
-mod tests;

@@ -9,6 +9,3 @@ mod shows;
 
 pub use peer_session::SessionRefusal;
 pub use session::Session;
-
-#[cfg(test)]
-mod tests;

@@ -1,6 +1,6 @@
 //! The check of configuration files, over files in memory.
 
-use crate::bgpd_main;
+use bgpd_top::bgpd_main;
 use io_edge::{
     CallList, Failures, MemoryClock, MemoryFile, MemoryFiles, MemoryNet, MemorySink, MemorySource,
 };

@@ -1,4 +1,4 @@
-use crate::bgpd_main;
+use bgpd_top::bgpd_main;
 use io_edge::{CallList, Failures, MemoryClock, MemoryFiles, MemoryNet, MemorySink, MemorySource};
 use kroute::TableMemory;
 use net_base::{Bytes, Items};

@@ -1,7 +1,7 @@
-use super::*;
 use bgp_wire::OpenRules;
 use core_msgs::{Done, Frame, Line};
 use net_base::{Addr, Items, NoMemory};
+use peer_session::*;
 use std::alloc::Global;
 use std::test::*;
 

@@ -1,7 +1,7 @@
-use crate::{Parent, ReloadRefusal};
 use core_msgs::{Core, Done, Frame, Line};
 use kroute::{Coupling, Kernel, TableMemory};
 use net_base::{Addr, ConfFault, ConfKind, Family, Items, NoMemory, Prefix};
+use parent_core::{Parent, ReloadRefusal};
 use std::alloc::Global;
 use std::test::Fail;
 

@@ -1,6 +1,6 @@
-use super::*;
 use core_msgs::{CtlCommand, Done, Frame, Line, Row, SessionAction};
 use net_base::{Addr, Items, NoMemory, Way};
+use session_core::*;
 use std::alloc::Global;
 use std::test::*;
 
