@@ -1,7 +1,8 @@
 -- One row changes, and all other rows stay.
 use Rattle.std.proofs.Common.{◌≡◌, Bool, true, false, cond, List, [], ◌∷◌, length, arith, Option, Some, None, refl, sym, ap, ◌∙◌, subst}
 use Rattle.std.specs.Prelude.{unwrap_or, Result, Ok, Err, OnOk, OnErr}
-use Rattle.std.specs.Map.{lookup}
+use Rattle.std.specs.List.Sorted.{IsStrictlySortedBy}
+use Rattle.std.specs.Map.{keys_of, lookup}
 use Rattle.std.specs.declared.cmp.Ordering.{Ordering}
 use Rattle.std.specs.Ordering.{is_eq}
 use Rattle.net_base.specs.Order.{prefix_cmp}
@@ -28,6 +29,11 @@ ByPrefix = Prefix → Prefix → Ordering
 -- the entries by an order of prefixes
 abbrev pub entry_by : ByPrefix → Held → Prefix → Option (List Entry)
 entry_by cmp held prefix = lookup (λ other. is_eq (cmp prefix other)) held
+
+-- the prefixes ascend
+pub ascending : (cmp : ByPrefix) → cmp ≡ prefix_cmp → (held all : Held) → all ≡ held → IsStrictlySortedBy cmp (keys_of all) → IsStrictlySortedBy prefix_cmp (keys_of held)
+ascending cmp e held all same sorted =
+    subst (λ (r : ByPrefix). IsStrictlySortedBy r (keys_of held)) e (subst (λ (rows : Held). IsStrictlySortedBy cmp (keys_of rows)) same sorted)
 
 -- a row is put under the prefix
 pub sets_row : (cmp : ByPrefix) → cmp ≡ prefix_cmp → (old new : Held) (prefix : Prefix) (row : List Entry)

@@ -5,3 +5,4 @@ mod Held
 mod Dropped
 mod Listed
 mod Lists
+mod Uses

@@ -1,3 +1,4 @@
 pub mod Row
 pub mod Held
 pub mod Listed
+pub mod Uses

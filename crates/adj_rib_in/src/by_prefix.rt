@@ -1,8 +1,11 @@
-ghost use Rattle.std.specs.Prelude.{◌≡◌, ◌<◌, ◌≤◌, [], ◌∷◌, ◌++◌, length, vec_len, vec_capacity, None, IfOk, IfErr, OnOk, OnErr};
+ghost use Rattle.std.specs.Prelude.{◌≡◌, ◌<◌, ◌≤◌, true, [], ◌∷◌, ◌++◌, length, is_some, is_err, vec_len, vec_capacity, Some, None, IfOk, IfErr, OnOk, OnErr};
 ghost use Rattle.net_base.specs.declared.prefix.Prefix.{Prefix};
-ghost use Rattle.std.specs.Map.{lookup};
+ghost use Rattle.std.specs.List.Sorted.{IsStrictlySortedBy};
+ghost use Rattle.std.specs.Map.{keys_of, lookup};
+ghost use Rattle.net_base.specs.Order.{prefix_cmp};
 ghost use Rattle.adj_rib_in.specs.Row.{attrs_of, put, without, IsInOrder};
 ghost use Rattle.adj_rib_in.specs.Held.{held_at, is_same, route_at, held_but, routes_of, IsSame, SetsRow};
+ghost use Rattle.adj_rib_in.specs.Uses.{kept, refs_of_route, refs_of_routes, Swaps};
 
 use crate::row::{Entry, Row};
 use attr_model::AttrRef;
@@ -41,7 +44,9 @@ impl RowsByPrefix {
     pub(crate) fn of(&self, prefix: Prefix) -> &[Entry]
         ensures row { result.now ≡ held_at self.now prefix }
         ensures in_order { IsInOrder result.now }
+        ensures by_prefix { IsStrictlySortedBy prefix_cmp (keys_of self.now) }
     {
+        let _ascending = self.rows.len();
         match self.rows.get(&prefix) {
             Some(row) => row.as_slice(),
             None => &[],
@@ -59,6 +64,8 @@ impl RowsByPrefix {
         ensures row { OnOk result (SetsRow self.old self.new prefix (put (record { session = session; attrs = attrs }) (held_at self.old prefix))) }
         ensures old { IfOk result (λ old. old ≡ route_at self.old prefix session) }
         ensures same { OnErr result (IsSame self.old self.new) }
+        ensures swaps { IfOk result (λ old. Swaps (kept self.old) (kept self.new) (attrs ∷ []) (refs_of_route old)) }
+        ensures stay { OnErr result (Swaps (kept self.old) (kept self.new) [] []) }
         ensures back { IfErr result (λ one. one ≡ attrs) }
     {
         let entry = Entry { session, attrs };
@@ -72,6 +79,7 @@ impl RowsByPrefix {
     pub(crate) fn unset(&mut self, prefix: Prefix, session: u32) -> Option<AttrRef>
         ensures row { SetsRow self.old self.new prefix (without session (held_at self.old prefix)) }
         ensures value { result ≡ route_at self.old prefix session }
+        ensures swaps { Swaps (kept self.old) (kept self.new) [] (refs_of_route result) }
     {
         let row = self.rows.get_mut(&prefix)?;
         let old = row.take(session);
@@ -92,6 +100,7 @@ impl RowsByPrefix {
         requires room { length prefixes.keys ≤ vec_capacity dropped }
         ensures rows { (prefix : Prefix) → held_at self.new prefix ≡ held_but session prefixes.keys (held_at self.old) prefix }
         ensures dropped { result.items ≡ routes_of session prefixes.keys self.old }
+        ensures swaps { Swaps (kept self.old) (kept self.new) [] (refs_of_routes result.items) }
     {
         while let Some(prefix) = prefixes.pop_first() {
             self.drop_one(session, prefix, &mut dropped);
@@ -105,6 +114,7 @@ impl RowsByPrefix {
         ensures row { SetsRow self.old self.new prefix (without session (held_at self.old prefix)) }
         ensures dropped { dropped.new.items ≡ dropped.old.items ++ routes_of session (prefix ∷ []) self.old }
         ensures room { vec_capacity dropped.new ≡ vec_capacity dropped.old }
+        ensures swaps { Swaps (kept self.old) (kept self.new) [] (refs_of_routes (routes_of session (prefix ∷ []) self.old)) }
     {
         if let Some(attrs) = self.unset(prefix, session) {
             dropped.push_reserved((prefix, attrs));
@@ -117,14 +127,28 @@ impl RowsByPrefix {
         ensures row { OnOk result (SetsRow self.old self.new prefix (put entry [])) }
         ensures old { IfOk result (λ old. old ≡ None) }
         ensures same { OnErr result (IsSame self.old self.new) }
+        ensures swaps { IfOk result (λ old. Swaps (kept self.old) (kept self.new) (entry.attrs ∷ []) (refs_of_route old)) }
+        ensures stay { OnErr result (Swaps (kept self.old) (kept self.new) [] []) }
         ensures back { IfErr result (λ one. one ≡ entry.attrs) }
     {
-        let Ok(_) = self.rows.insert(prefix, Row::new(self.alloc)) else {
-            return Err(entry.attrs);
-        };
-        let Some(row) = self.rows.get_mut(&prefix) else {
-            return Err(entry.attrs);
-        };
-        row.put(entry)
+        let session = entry.session;
+        let mut row = Row::new(self.alloc);
+        row.put(entry)?;
+        match self.rows.insert(prefix, row) {
+            Ok(_) => Ok(None),
+            Err(failed) => back(failed.value.1, session),
+        }
+    }
+}
+
+/// The route of a row that found no place comes back.
+fn back(mut row: Row, session: u32) -> Result<Option<AttrRef>, AttrRef>
+    requires { is_some (attrs_of session row) ≡ true }
+    ensures err { is_err result ≡ true }
+    ensures back { IfErr result (λ one. Some one ≡ attrs_of session row) }
+{
+    match row.take(session) {
+        Some(attrs) => Err(attrs),
+        None => Ok(None),
     }
 }

@@ -81,6 +81,7 @@ impl Row {
     pub(crate) fn take(&mut self, session: u32) -> Option<AttrRef>
         ensures row { self.new ≡ without session self.old }
         ensures value { result ≡ attrs_of session self.old }
+        ensures in_order { IsInOrder self.old }
     {
         let at = place_of(self.entries.as_slice(), session);
         if at < self.entries.len() {

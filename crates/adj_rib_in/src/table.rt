@@ -1,10 +1,11 @@
-ghost use Rattle.std.specs.Prelude.{◌≡◌, [], map, IfOk, IfErr, OnOk, OnErr};
+ghost use Rattle.std.specs.Prelude.{◌≡◌, [], ◌∷◌, map, IfOk, IfErr, OnOk, OnErr};
 ghost use Rattle.std.specs.List.Sorted.{IsStrictlySortedBy};
 ghost use Rattle.std.specs.Map.{keys_of, lookup};
 ghost use Rattle.net_base.specs.declared.prefix.Prefix.{Prefix};
 ghost use Rattle.net_base.specs.Order.{prefix_cmp};
 ghost use Rattle.adj_rib_in.specs.Row.{put, without, IsInOrder};
 ghost use Rattle.adj_rib_in.specs.Held.{held_at, is_same, route_at, IsSame, SetsRow};
+ghost use Rattle.adj_rib_in.specs.Uses.{kept, refs_of_route, refs_of_routes, Swaps};
 
 use crate::by_prefix::RowsByPrefix;
 use crate::by_session::PrefixesBySession;
@@ -52,6 +53,7 @@ impl AdjRibIn {
     pub fn of(&self, prefix: Prefix) -> &[Entry]
         ensures row { result.now ≡ held_at self.now prefix }
         ensures in_order { IsInOrder result.now }
+        ensures by_prefix { IsStrictlySortedBy prefix_cmp (keys_of self.now) }
     {
         self.rows.of(prefix)
     }
@@ -67,6 +69,8 @@ impl AdjRibIn {
         ensures row { OnOk result (SetsRow self.old self.new prefix (put (record { session = session; attrs = attrs }) (held_at self.old prefix))) }
         ensures old { IfOk result (λ old. old ≡ route_at self.old prefix session) }
         ensures same { OnErr result (IsSame self.old self.new) }
+        ensures swaps { IfOk result (λ old. Swaps (kept self.old) (kept self.new) (attrs ∷ []) (refs_of_route old)) }
+        ensures stay { OnErr result (Swaps (kept self.old) (kept self.new) [] []) }
         ensures back { IfErr result (λ one. one ≡ attrs) }
     {
         let Ok(()) = self.prefixes.add(session, prefix) else {
@@ -79,6 +83,7 @@ impl AdjRibIn {
     pub fn unset(&mut self, prefix: Prefix, session: u32) -> Option<AttrRef>
         ensures row { SetsRow self.old self.new prefix (without session (held_at self.old prefix)) }
         ensures value { result ≡ route_at self.old prefix session }
+        ensures swaps { Swaps (kept self.old) (kept self.new) [] (refs_of_route result) }
     {
         let old = self.rows.unset(prefix, session);
         self.prefixes.remove(session, prefix);
@@ -91,6 +96,7 @@ impl AdjRibIn {
         ensures rows { OnOk result ((prefix : Prefix) → held_at self.new prefix ≡ without session (held_at self.old prefix)) }
         ensures dropped { IfOk result (λ dropped. (prefix : Prefix) → lookup (is_same prefix) dropped ≡ route_at self.old prefix session) }
         ensures by_prefix { IfOk result (λ dropped. IsStrictlySortedBy prefix_cmp (keys_of dropped)) }
+        ensures swaps { IfOk result (λ dropped. Swaps (kept self.old) (kept self.new) [] (refs_of_routes dropped)) }
         ensures same { OnErr result (self.new ≡ self.old) }
     {
         let dropped = Vec::with_capacity(self.alloc, self.prefixes.count(session))?;

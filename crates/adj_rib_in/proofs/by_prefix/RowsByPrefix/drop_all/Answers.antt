@@ -7,6 +7,7 @@ use Rattle.net_base.specs.contracts.prefix.PrefixOrd.TheImpl.{cmp-value as deriv
 use Rattle.net_base.proofs.Order.{derived_prefix_cmp}
 use Rattle.adj_rib_in.specs.Held.{held_at, held_but, routes_of}
 use Rattle.adj_rib_in.proofs.Dropped.{above, rows_step, one_less, one_more}
+use Rattle.adj_rib_in.proofs.Uses.{dropped_swaps}
 use Rattle.adj_rib_in.proofs.by_prefix.RowsByPrefix.drop_all.Goals as goal
 
 pub drop_one-requires : goal.drop_one-requires
@@ -27,6 +28,7 @@ loop-prefix-preserved c =
           ∙ one_more c.args.session held c.drop_one.new.self prefix rest c.loop-prefix.dropped.items c.drop_one.ensures.row others
           ∙ ap (λ keys. c.loop-prefix.dropped.items ++ routes_of c.args.session keys held) (sym first)
           ∙ c.loop-prefix.invariant.dropped;
+      swaps = dropped_swaps c.args.self.now held c.drop_one.new.self c.args.session prefix c.loop-prefix.dropped.items c.drop_one.new.dropped.items c.loop-prefix.invariant.swaps c.drop_one.ensures.swaps c.drop_one.ensures.dropped;
       room = omega (
         arith,
         c.loop-prefix.invariant.room,
