@@ -1,8 +1,12 @@
 -- The frames that a link holds.
-use Rattle.std.proofs.Common.{◌≡◌, ◌∙◌, ℕ, List, [], ◌∷◌, ◌++◌, take, drop, Option, Some, None, Ok, Err, Result, refl, ap, sym, append_assoc, append-nil}
-use Rattle.std.specs.Prelude.{flat_map}
+use Rattle.std.proofs.Common.{◌≡◌, ◌∙◌, ℕ, ◌+◌, ◌<◌, ◌≤◌, Bool, true, false, arith, length, List, [], ◌∷◌, ◌++◌, take, drop, Option, Some, None, Ok, Err, Result, refl, ap, sym, append_assoc, append-nil}
+use Rattle.std.specs.Prelude.{flat_map, nat_lt}
+use Rattle.std.proofs.lemmas.Bool.Decides.{nat_tests}
+use Rattle.std.proofs.Math.Seq.{take-append_seam, take-append-add}
+use Rattle.byteorder.specs.Endian.{little_number}
+use Rattle.byteorder.specs.Numbers.{little_number-reads_back}
 use Rattle.std.specs.List.{All}
-use Rattle.std.proofs.lemmas.List.{take-append-drop}
+use Rattle.std.proofs.lemmas.List.{take-append-drop, take-append-le, get_or-drop}
 use Rattle.std.proofs.lemmas.List.Concat.{flat_map-append}
 use Rattle.std.proofs.lemmas.List.Elements.{All-head, All-tail, All-push}
 use Rattle.imsg_wire.specs.declared.link.Link.{Link}
@@ -10,7 +14,7 @@ use Rattle.imsg_wire.specs.declared.raw.Raw.{Raw}
 use Rattle.imsg_wire.specs.declared.raw.ImsgFault.{ImsgFault}
 use Rattle.imsg_wire.specs.declared.raw.ImsgFault.TheVariants as faults
 use Rattle.imsg_wire.specs.Frame.{frame_bytes, IsFrame, More, Whole, Bad, front_of, Takes}
-use Rattle.imsg_wire.specs.Holding.{Holds, GivesFirst}
+use Rattle.imsg_wire.specs.Holding.{Holds, GivesFirst, size_in, missing_of}
 use Rattle.imsg_wire.proofs.Fronts.{front_of-append_whole, front_of-append_bad, front_of-written, front_of-nil}
 
 -- a frame that is appended is the last
@@ -87,3 +91,46 @@ gives_first old new raws (Ok (Some raw)) t c h = some_given old new raw raws t c
 gives_first old new raws (Ok None) t c h = (same_link new old t.1 c, λ e. none_left old raws t.0 h e)
 gives_first old new raws (Err (faults.BadLength size)) t c h = none_bad old raws size t.0 h
 gives_first old new raws (Err faults.NoMemory) t c h = same_link new old t.1 c
+
+-- the header of a frame that was written says its length
+size_written : (raw : Raw) (rest : List ℕ) → IsFrame raw → size_in (frame_bytes raw ++ rest) ≡ length (frame_bytes raw)
+unfolding frame_bytes
+size_written raw rest fits =
+    let few : length raw.payload ≤ 16368 = fits.payload in
+    let size : little_number 2 (drop 4 (frame_bytes raw ++ rest)) ≡ 16 + length raw.payload = little_number-reads_back 2 (16 + length raw.payload) (drop 6 (frame_bytes raw ++ rest)) (omega arith) in
+    let all : length (frame_bytes raw) ≡ 16 + length raw.payload = omega arith in
+    let low = get_or-drop 4 (frame_bytes raw ++ rest) 0 0 in
+    let high = get_or-drop 4 (frame_bytes raw ++ rest) 1 0 in
+    omega (arith, size, all, low, high)
+
+-- a part of the first frame is shorter than that
+part_shorter : (link : Link) (raw : Raw) (raws : List Raw) → Holds link (raw ∷ raws) → front_of link.reader ≡ More → length link.reader < length (frame_bytes raw)
+part_shorter link raw raws h more = by (nat_lt (length link.reader) (length (frame_bytes raw))) refl
+  where
+    by : (b : Bool) → nat_lt (length link.reader) (length (frame_bytes raw)) ≡ b → length link.reader < length (frame_bytes raw)
+    by true e = grind (arith, nat_tests, e)
+    by false e =
+        let long : length (frame_bytes raw) ≤ length link.reader = grind (arith, nat_tests, e) in
+        let front : take (length (frame_bytes raw)) link.reader ≡ frame_bytes raw =
+        sym (take-append-le (length (frame_bytes raw)) link.reader link.coming long)
+        ∙ ap (λ (x : List ℕ). take (length (frame_bytes raw)) x) h.whole
+        ∙ take-append_seam (frame_bytes raw) (flat_map frame_bytes raws) in
+        let split : frame_bytes raw ++ drop (length (frame_bytes raw)) link.reader ≡ link.reader =
+        ap (λ (x : List ℕ). x ++ drop (length (frame_bytes raw)) link.reader) (sym front)
+        ∙ take-append-drop (length (frame_bytes raw)) link.reader in
+        let whole : front_of link.reader ≡ Whole raw (drop (length (frame_bytes raw)) link.reader) =
+        ap front_of (sym split) ∙ front_of-written raw (drop (length (frame_bytes raw)) link.reader) (All-head IsFrame raw raws h.each) in
+        absurd cc
+
+-- so many bytes complete the first frame
+pub completes : (link : Link) (raw : Raw) (raws : List Raw) (n : ℕ) → n ≡ missing_of link → Holds link (raw ∷ raws) → front_of link.reader ≡ More →
+    link.reader ++ take n link.coming ≡ frame_bytes raw
+completes link raw raws n e h more =
+    let size : size_in (link.reader ++ link.coming) ≡ length (frame_bytes raw) =
+    ap size_in h.whole ∙ size_written raw (flat_map frame_bytes raws) (All-head IsFrame raw raws h.each) in
+    let short = part_shorter link raw raws h more in
+    let count : length link.reader + n ≡ length (frame_bytes raw) = omega (arith, e, size, short) in
+    sym (take-append-add link.reader link.coming n)
+    ∙ ap (λ (x : ℕ). take x (link.reader ++ link.coming)) count
+    ∙ ap (λ (x : List ℕ). take (length (frame_bytes raw)) x) h.whole
+    ∙ take-append_seam (frame_bytes raw) (flat_map frame_bytes raws)

@@ -1,4 +1,5 @@
-ghost use Rattle.std.specs.Prelude.{◌≡◌, ℕ, List, [], ◌∷◌, ◌++◌, ◌≤◌, ◌↔◌, length, take, drop, OnOk, OnErr};
+ghost use Rattle.std.specs.Prelude.{◌≡◌, ℕ, List, [], ◌∷◌, ◌++◌, ◌≤◌, ◌↔◌, ◌==◌, ◌&&◌, length, take, drop, get_or, OnOk, OnErr};
+ghost use Rattle.imsg_wire.specs.Holding.{size_in};
 
 use crate::{ImsgFault, Raw, Reader, frame};
 use net_base::NoMemory;
@@ -17,8 +18,8 @@ pub struct Link {
 
 impl Link {
     ghost use Rattle.imsg_wire.specs.declared.raw.Raw.{Raw};
-    ghost use Rattle.imsg_wire.specs.Frame.{More, Takes, front_of};
-    ghost use Rattle.imsg_wire.specs.Holding.{GivesFirst, Holds, with_frame};
+    ghost use Rattle.imsg_wire.specs.Frame.{More, Takes, frame_bytes, front_of};
+    ghost use Rattle.imsg_wire.specs.Holding.{GivesFirst, Holds, missing_of, with_frame};
 
     /// A link without bytes, which takes no memory.
     pub fn new(alloc: Global) -> Link
@@ -58,6 +59,24 @@ impl Link {
         Ok(())
     }
 
+    /// Whether it holds no byte, in its reader neither.
+    pub fn is_empty(&self) -> bool
+        ensures { result ≡ (length self.now.reader == 0 && length self.now.coming == 0) }
+    {
+        self.reader.held().len() == 0 && self.coming.len() == 0
+    }
+
+    /// How many of the bytes that are still to come complete the frame that comes next, where the reader has a part of
+    /// it or nothing.
+    pub fn missing(&self) -> usize
+        ensures value { result ≡ missing_of self.now }
+        ensures completes { (raw : Raw) (raws : List Raw) → Holds self.now (raw ∷ raws) → front_of self.now.reader ≡ More →
+            self.now.reader ++ take result self.now.coming ≡ frame_bytes raw }
+    {
+        let held = self.reader.held();
+        size_of(held, self.coming.peek()).saturating_sub(held.len())
+    }
+
     /// The next frame whose last byte the reader has. It moves no byte from those that are still to come.
     pub fn next(&mut self) -> Result<Option<Raw>, ImsgFault>
         ensures takes { Takes self.old.reader self.new.reader result }
@@ -67,5 +86,29 @@ impl Link {
         ensures holds { (raws : List Raw) → Holds self.old raws → GivesFirst self.old self.new raws result }
     {
         self.reader.next()
+    }
+}
+
+/// The length that the header at the front of these bytes says.
+fn size_of(held: &[u8], coming: &[u8]) -> usize
+    ensures { result ≡ size_in (held.now ++ coming.now) }
+{
+    let low = byte_at(4, held, coming);
+    let high = byte_at(5, held, coming);
+    usize::from(low) + 256 * usize::from(high)
+}
+
+/// The byte at a place of these bytes, or 0 past their end.
+fn byte_at(place: usize, held: &[u8], coming: &[u8]) -> u8
+    ensures { result ≡ get_or (held.now ++ coming.now) place 0 }
+{
+    if place < held.len() {
+        return held[place];
+    }
+    let place = place - held.len();
+    if place < coming.len() {
+        coming[place]
+    } else {
+        0
     }
 }

@@ -52,6 +52,13 @@ impl Reader {
         self.held.push(bytes)
     }
 
+    /// The bytes that were fed and not taken.
+    pub fn held(&self) -> &[u8]
+        ensures { result.now ≡ self.now }
+    {
+        self.held.peek()
+    }
+
     /// The next whole frame, whose bytes it takes. Where it answers no frame, it holds what it held.
     ///
     /// `BadLength` comes exactly where the 16 bytes of the next header are there with a length below 16 or above
