@@ -14,6 +14,8 @@ enum Text {
     Qualifying,
     /// 136 bytes.
     Mirrored,
+    /// The kernel tables are decoupled.
+    Silent,
     Faulty,
 }
 
@@ -23,6 +25,7 @@ impl Text {
             Text::Ordinary => b"AS 65001\nrouter-id 10.0.0.1\n",
             Text::Qualifying => b"AS 65001\nrouter-id 10.0.0.1\nnexthop qualify via default\n",
             Text::Mirrored => b"AS 65001\nrouter-id 10.0.0.1\nrde rib mirror rtable 2\n",
+            Text::Silent => b"AS 65001\nrouter-id 10.0.0.1\nfib-update no\n",
             Text::Faulty => b"AS 65001\nrouter-id 10.0.0.1\nfrobnicate\n",
         }
     }
@@ -85,6 +88,8 @@ enum Out {
 #[derive(Clone, Copy)]
 enum Step {
     Reload(Text),
+    /// A reload that both cores take up; what it gives is passed over.
+    Configure(Text),
     Ack(u32),
     Track(Hop),
     Untrack(Hop),
@@ -206,6 +211,18 @@ impl Bench {
         }
     }
 
+    fn configure(&mut self, text: Text) -> Result<(), Fail> {
+        if self.parent.accepted() > 9 {
+            return Err("too many reloads".into());
+        }
+        let Ok((generation, _)) = self.parent.reload(text.bytes()) else {
+            return Err("the reload is refused".into());
+        };
+        self.parent.frame(Frame::Ack(generation))?;
+        self.parent.frame(Frame::Ack(generation))?;
+        Ok(())
+    }
+
     fn call(&mut self, alloc: Global, step: Step) -> Result<(), Fail> {
         if let Some(frame) = frame_of(step)? {
             let done = self.parent.frame(frame)?;
@@ -213,6 +230,7 @@ impl Bench {
         }
         match step {
             Step::Reload(text) => self.reload(alloc, text),
+            Step::Configure(text) => self.configure(text),
             Step::Route(net, up) => {
                 let done = self.parent.kernel_route(net.prefix()?, up)?;
                 self.gives(alloc, &done)
@@ -365,4 +383,51 @@ const KERNEL_TABLE: &[Step] = &[
 #[test]
 fn a_kernel_table_follows(rt: HostRuntime) -> Result<(), Fail> {
     Bench::new(rt.alloc(), TableMemory::new(rt.alloc())).go(rt.alloc(), KERNEL_TABLE)
+}
+
+/// A kernel table that the configuration lacks is forgotten, and its rows stay in the kernel. Where it comes again, they are
+/// listed, and deleted as they aren't wanted.
+const COMES_AGAIN: &[Step] = &[
+    Step::Configure(Text::Mirrored),
+    Step::Want(2, Net::One),
+    Step::Unit,
+    Step::Unit,
+    Step::Unit,
+    Step::Stands(2, Some(Coupling::Coupled), 1, 1),
+    Step::Configure(Text::Ordinary),
+    Step::Stands(2, None, 0, 1),
+    Step::Configure(Text::Mirrored),
+    Step::Has(None, Some(2)),
+    Step::Unit,
+    Step::Stands(2, Some(Coupling::Coupled), 0, 1),
+    Step::Unit,
+    Step::Stands(2, Some(Coupling::Coupled), 0, 0),
+    Step::Has(None, None),
+];
+
+#[test]
+fn a_table_comes_again(rt: HostRuntime) -> Result<(), Fail> {
+    Bench::new(rt.alloc(), TableMemory::new(rt.alloc())).go(rt.alloc(), COMES_AGAIN)
+}
+
+/// The switch couples and decouples the kernel tables. What is wanted of a decoupled one is kept.
+const SWITCH: &[Step] = &[
+    Step::Configure(Text::Silent),
+    Step::Want(0, Net::One),
+    Step::Has(None, None),
+    Step::Stands(0, Some(Coupling::Decoupled), 1, 0),
+    Step::Configure(Text::Ordinary),
+    Step::Has(None, Some(0)),
+    Step::Unit,
+    Step::Unit,
+    Step::Stands(0, Some(Coupling::Coupled), 1, 1),
+    Step::Configure(Text::Silent),
+    Step::Unit,
+    Step::Stands(0, Some(Coupling::Decoupled), 1, 0),
+    Step::Has(None, None),
+];
+
+#[test]
+fn the_switch_changes(rt: HostRuntime) -> Result<(), Fail> {
+    Bench::new(rt.alloc(), TableMemory::new(rt.alloc())).go(rt.alloc(), SWITCH)
 }

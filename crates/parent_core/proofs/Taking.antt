@@ -14,7 +14,7 @@ use Rattle.parent_core.specs.KernelTables.{is_among, taken}
 pub same_number : (k n : ℕ) → is_eq (nat_cmp k n) ≡ (k == n)
 same_number k n = grind arith
 
-same_number_back : (k n : ℕ) → is_eq (nat_cmp n k) ≡ (k == n)
+pub same_number_back : (k n : ℕ) → is_eq (nat_cmp n k) ≡ (k == n)
 same_number_back k n = grind arith
 
 -- the table of this number, without those that are left to be looked at and aren't kept

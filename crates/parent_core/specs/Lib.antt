@@ -7,3 +7,4 @@ pub mod Calls
 pub mod History
 pub mod Runs
 pub mod Answered
+pub mod Cost

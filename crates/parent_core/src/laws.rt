@@ -1,12 +1,14 @@
 //! What stands behind any calls.
-ghost use Rattle.std.specs.Prelude.{◌≡◌, ◌≢◌, ℕ, [], ◌++◌, List, map, true, Some, None};
+ghost use Rattle.std.specs.Prelude.{◌≡◌, ◌≢◌, ℕ, [], ◌++◌, Bool, List, map, true, Some, None};
 ghost use Rattle.net_base.specs.declared.addr.Addr.{Addr};
 ghost use Rattle.net_base.specs.declared.prefix.Prefix.{Prefix};
 ghost use Rattle.conf_tree.specs.declared.conf.Conf.{Conf};
 ghost use Rattle.conf_tree.specs.Canonical.{canonical};
+ghost use Rattle.core_msgs.specs.declared.frame.Done.{Done};
+ghost use Rattle.core_msgs.specs.declared.frame.Frame.{Frame};
 ghost use Rattle.core_msgs.specs.declared.frame.Frame.TheVariants.{Ack, Couple};
 ghost use Rattle.core_msgs.specs.declared.parts.Core.TheVariants.{Decision};
-ghost use Rattle.kroute.specs.Calls.{IsNext};
+ghost use Rattle.kroute.specs.Calls.{IsNext, Outside};
 ghost use Rattle.kroute.specs.Phases.{coupling_of, row_at};
 ghost use Rattle.kroute.specs.Rows.{Rows};
 ghost use Rattle.kroute.specs.Table.{TableState};
@@ -19,6 +21,8 @@ ghost use Rattle.reload_stage.specs.declared.item.StageItem.{StageItem};
 ghost use Rattle.reload_stage.specs.Stages.{stage_items};
 ghost use Rattle.parent_core.specs.declared.reloads.Stage.TheVariants.{AtSession};
 ghost use Rattle.parent_core.specs.Answered.{last_answer};
+ghost use Rattle.parent_core.specs.Calls.{Routes, Takes, Works};
+ghost use Rattle.parent_core.specs.Cost.{Bounds, BringsWithin, IsWithin, ListsWithin};
 ghost use Rattle.parent_core.specs.Frames.{answered, only_frames, staged};
 ghost use Rattle.parent_core.specs.History.{History, Step, Took, given, kept};
 ghost use Rattle.parent_core.specs.Runs.{Does, Held, LeadsTo};
@@ -55,4 +59,14 @@ pub fn both_cores_get_one_stage()
 pub fn last_answers_hold()
     ensures { (h : History) (a : Addr) → is_tracked_in (kept h).hops.tracked a ≡ true →
         last_answer a h ≡ Some (is_valid (kept h).hops a) }
+{}
+
+/// What bounds the parent still does behind each step, where what the step brings is within the bounds too.
+pub fn bounds_stay()
+    ensures frame { (frame : Frame) (old new : ParentState) (done : Done) (b : Bounds) →
+        Takes frame old new done → BringsWithin b frame old → IsWithin b old → IsWithin b new }
+    ensures route { (p : Prefix) (up : Bool) (old new : ParentState) (done : Done) (b : Bounds) →
+        Routes p up old new done → IsWithin b old → IsWithin b new }
+    ensures unit { (old new : ParentState) (done : Done) (before behind : Outside) (b : Bounds) →
+        Works old new done before behind → ListsWithin b before behind → IsWithin b old → IsWithin b new }
 {}

@@ -10,7 +10,7 @@ mod sending;
 
 pub use fault::{CoreFault, ReloadRefusal};
 pub use laws::{
-    both_cores_get_one_stage, last_answers_hold, lost_tables_rest,
+    both_cores_get_one_stage, bounds_stay, last_answers_hold, lost_tables_rest,
     settled_tables_hold_what_is_wanted,
 };
 pub use parent::Parent;

@@ -1,4 +1,4 @@
-ghost use Rattle.std.specs.Prelude.{◌≡◌, ℕ, ◌+◌, ◌<◌, ◌^◌, [], ◌∷◌, ◌++◌, map, false, Option, Ok, IfOk, OnOk, OnErr, IsErrOf, IsTrue, ◌↔◌};
+ghost use Rattle.std.specs.Prelude.{◌≡◌, ℕ, ◌+◌, ◌*◌, ◌<◌, ◌^◌, [], ◌∷◌, ◌++◌, length, map, false, Option, Ok, IfOk, OnOk, OnErr, IsErrOf, IsTrue, ◌↔◌};
 ghost use Rattle.conf_tree.specs.declared.conf.Conf.{Conf};
 ghost use Rattle.conf_tree.specs.Language.{configuration};
 ghost use Rattle.conf_tree.specs.Empty.{empty_conf};
@@ -8,6 +8,7 @@ ghost use Rattle.kroute.specs.Tables.{LowestJob, SetsArranged};
 ghost use Rattle.nexthop_track.specs.Changes.{answers_changed};
 ghost use Rattle.reload_stage.specs.Stages.{CanBeStaged};
 ghost use Rattle.parent_core.specs.Calls.{Accepts, Acks, Advances, AnswersReload, Changes, ChangesKernelTable, Routes, Takes, Tracks, Untracks, Works};
+ghost use Rattle.parent_core.specs.Cost.{Bounds, Costs, CostsUnit, IsWithin, Weights, load, reload_cost, taking_cost};
 ghost use Rattle.parent_core.specs.Frames.{answered, only_frames, staged};
 ghost use Rattle.parent_core.specs.History.{Accepted, Arranged, Follows, History, Routed, Stands, Took, Worked};
 ghost use Rattle.parent_core.specs.KernelTables.{Configures, switched_to};
@@ -79,6 +80,8 @@ impl Parent {
         ensures answer { AnswersReload text.now self.old self.new result }
         ensures refused { OnErr result (self.new ≡ self.old) }
         ensures history { IfOk result (λ given. (conf : Conf) → configuration text.now ≡ Ok conf → Follows (Accepted conf) self.old self.new given.1) }
+        ensures cost { IfOk result (λ given. (w : Weights) (b : Bounds) (conf : Conf) → configuration text.now ≡ Ok conf →
+            Costs w b 0 (reload_cost w b given.0 conf) self.old self.new given.1) }
     {
         if self.spent {
             return Err(ReloadRefusal::Spent);
@@ -103,6 +106,8 @@ impl Parent {
     pub fn frame(&mut self, frame: Frame) -> Result<Done, CoreFault>
         ensures taken { IfOk result (λ done. Takes frame self.old self.new done) }
         ensures history { IfOk result (λ done. Follows (Took frame) self.old self.new done) }
+        ensures cost { IfOk result (λ done. (w : Weights) (b : Bounds) → IsWithin b self.old →
+            Costs w b 1 (taking_cost w b frame) self.old self.new done) }
         ensures spent { OnErr result (IsTrue self.new.spent) }
         ensures was_spent { IsErrOf result CoreFault.Spent ↔ IsTrue self.old.spent }
         ensures same { IsTrue self.old.spent → self.new ≡ self.old }
@@ -124,6 +129,8 @@ impl Parent {
     pub fn kernel_route(&mut self, prefix: Prefix, up: bool) -> Result<Done, CoreFault>
         ensures routed { IfOk result (λ done. Routes prefix up self.old self.new done) }
         ensures history { IfOk result (λ done. Follows (Routed prefix up) self.old self.new done) }
+        ensures cost { IfOk result (λ done. (w : Weights) (b : Bounds) → IsWithin b self.old →
+            Costs w b 0 (length b.hops * w.nexthop) self.old self.new done) }
         ensures spent { OnErr result (IsTrue self.new.spent) }
         ensures was_spent { IsErrOf result CoreFault.Spent ↔ IsTrue self.old.spent }
         ensures same { IsTrue self.old.spent → self.new ≡ self.old }
@@ -148,6 +155,8 @@ impl Parent {
             (record { held = K.held kernel.old; faults = K.faults kernel.old; listed = K.listed kernel.old })
             (record { held = K.held kernel.new; faults = K.faults kernel.new; listed = K.listed kernel.new })) }
         ensures history { IfOk result (λ done. (lost : Option ℕ) × Follows (Worked lost) self.old self.new done) }
+        ensures cost { OnOk result ((w : Weights) (b : Bounds) → IsWithin b self.old →
+            CostsUnit w b (K.listed kernel.old) (K.listed kernel.new) self.old self.new) }
         ensures spent { OnErr result (IsTrue self.new.spent) }
         ensures was_spent { IsErrOf result CoreFault.Spent ↔ IsTrue self.old.spent }
         ensures same { IsTrue self.old.spent → self.new ≡ self.old }
@@ -171,6 +180,7 @@ impl Parent {
         ensures tables { self.new.tables.tables ≡ self.old.tables.tables }
         ensures rest { OnOk result (self.new ≡ record self.old { tables = self.new.tables }) }
         ensures history { OnOk result ((h : History) → Stands self.old h → Stands self.new (Arranged table n ∷ h)) }
+        ensures cost { OnOk result ((w : Weights) (b : Bounds) → load w b self.new ≡ load w b self.old) }
         ensures spent { OnErr result (IsTrue self.new.spent) }
         ensures was_spent { IsErrOf result CoreFault.Spent ↔ IsTrue self.old.spent }
         ensures same { IsTrue self.old.spent → self.new ≡ self.old }
