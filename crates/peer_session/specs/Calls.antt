@@ -83,6 +83,42 @@ abbrev pub hold_of : Option OpenFacts → Settings → ℕ
 hold_of None settings = settings.rules.hold
 hold_of (Some facts) settings = facts.hold
 
+-- A neighbour comes into the configuration.
+abbrev pub comes : ℕ → Course → Course
+comes now c = takes events.Comes reasons.Code now c
+
+-- A connection with it stands.
+abbrev pub opens : ℕ → Course → Course
+opens now c = takes events.Opened reasons.Code now c
+
+-- Its connection is lost, or couldn't be made.
+abbrev pub loses : ℕ → Course → Course
+loses now c = takes events.Lost reasons.Lost now c
+
+-- The time is told.
+abbrev pub expires : ℕ → Course → Course
+expires now c = takes events.Deadline reasons.Code now c
+
+-- An operator takes it down.
+abbrev pub goes_down : ℕ → Course → Course
+goes_down now c = takes events.AdminDown reasons.Code now c
+
+-- It is no longer down.
+abbrev pub comes_back : ℕ → Course → Course
+comes_back now c = takes events.AdminUp reasons.Code now c
+
+-- An operator ends its connection.
+abbrev pub clears : ℕ → Course → Course
+clears now c = takes events.Clear reasons.Code now c
+
+-- It announced more prefixes than it may.
+abbrev pub exceeds : ℕ → ℕ → ℕ → Course → Course
+exceeds held most now c = takes events.Close (reasons.MaxPrefix held most) now c
+
+-- It leaves the configuration.
+abbrev pub leaves : ℕ → Course → Course
+leaves now c = takes (events.Ends 3) reasons.Code now c
+
 -- what is sent, as a line where it is something
 abbrev pub sent_lines : Addr → List ℕ → List Line
 sent_lines peer [] = []
@@ -158,7 +194,7 @@ with_settings settings c =
     record c { neighbour = record c.neighbour { settings = settings; fsm = record c.neighbour.fsm { passive = settings.passive } } }
 
 abbrev pub comes_back_where : Bool → ℕ → Course → Course
-comes_back_where is_wanted now c = if is_wanted then takes events.AdminUp reasons.Code now c else c
+comes_back_where is_wanted now c = if is_wanted then comes_back now c else c
 
 -- Cease 6/6, where the rules of its sessions changed.
 abbrev pub ends_for_rules : Bool → ℕ → Course → Course
@@ -169,5 +205,5 @@ abbrev pub configures : Bool → Settings → ℕ → Course → Course
 configures changed settings now c =
     let was = c.neighbour.settings in
     let set = with_settings settings c in
-    if settings.down && not was.down then takes events.AdminDown reasons.Code now set
+    if settings.down && not was.down then goes_down now set
     else ends_for_rules changed now (comes_back_where (was.down && not settings.down) now set)

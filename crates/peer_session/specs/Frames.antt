@@ -1,12 +1,12 @@
 -- The frames that an UPDATE gives.
-use Rattle.std.specs.Prelude.{ℕ, Bool, true, false, List, [], ◌∷◌, ◌++◌, filter, Option, Some, None}
+use Rattle.std.specs.Prelude.{ℕ, Bool, true, false, List, [], ◌∷◌, ◌++◌, filter, filter_map, Option, Some, None}
 use Rattle.net_base.specs.declared.addr.Family.{Family}
 use Rattle.net_base.specs.declared.addr.Family.TheVariants.{V4, V6}
 use Rattle.net_base.specs.declared.prefix.Prefix.{Prefix}
 use Rattle.attr_model.specs.declared.attrs.Attrs.{Attrs}
 use Rattle.update_codec.specs.declared.update.Update.{Update}
 use Rattle.core_msgs.specs.declared.frame.Frame.{Frame}
-use Rattle.core_msgs.specs.declared.frame.Frame.TheVariants.{Routes}
+use Rattle.core_msgs.specs.declared.frame.Frame.TheVariants.{Routes, Up}
 use Rattle.core_msgs.specs.declared.parts.Core.{Core}
 use Rattle.core_msgs.specs.declared.parts.Core.TheVariants.{Decision}
 
@@ -46,3 +46,12 @@ unfoldable pub update_frames : ℕ → Update → List (Core × Frame)
 update_frames session update =
     family_frames session V4 (prefixes_in V4 update.withdrawn) (groups_in V4 update.announced)
     ++ family_frames session V6 (prefixes_in V6 update.withdrawn) (groups_in V6 update.announced)
+
+-- the number of the session that comes up, where one does
+abbrev pub number_up : Frame → Option ℕ
+number_up (Up session peer asn id agreed) = Some session
+number_up frame = None
+
+-- the numbers of the sessions that come up, in their order
+abbrev pub ups : List (Core × Frame) → List ℕ
+ups sent = filter_map (λ s. number_up s.1) sent

@@ -9,7 +9,7 @@ ghost use Rattle.peer_session.specs.Neighbour.{Course, Does, course, is_connecte
 ghost use Rattle.peer_session.specs.Hearing.{heard_in};
 ghost use Rattle.peer_session.specs.Frames.{update_frames};
 ghost use Rattle.peer_session.specs.Steps.{Goes, Handles, agreed_of, comes_up_where, connect_lines, down_frames, down_lines, ends, ends_where, feeds, goes_on, handles, handles_front, is_agreed, is_there, keeps_alive, last_lines, refresh_frames, takes, tells_refresh, tells_update, up_frame};
-ghost use Rattle.peer_session.specs.Calls.{CanRoute, IsSame, Refuses, asks, comes_back_where, configures, connection_refusal, credit_frame, credit_frames, ends_for_rules, fresh, hold_of, is_passed_over, loss_refusal_in, number_of, open_refusal_in, refresh_refusal, routes_to, sent_lines, writes};
+ghost use Rattle.peer_session.specs.Calls.{CanRoute, IsSame, Refuses, asks, clears, comes, comes_back, comes_back_where, configures, connection_refusal, credit_frame, credit_frames, ends_for_rules, exceeds, expires, fresh, goes_down, hold_of, is_passed_over, leaves, loses, loss_refusal_in, number_of, open_refusal_in, opens, refresh_refusal, routes_to, sent_lines, writes};
 
 use crate::SessionRefusal;
 use crate::hearing::{Heard, hear};
@@ -187,7 +187,7 @@ impl NeighbourSession {
 
     /// The neighbour begins: it connects, or waits for the peer's connection, unless it is administratively down.
     pub fn comes(&mut self, now: u64, done: &mut Done) -> Result<(), NoMemory>
-        ensures { OnOk result (Does (takes events.Comes reasons.Code now) self.old self.new done.old done.new) }
+        ensures { OnOk result (Does (comes now) self.old self.new done.old done.new) }
     {
         self.take(&SessionEvent::Comes, Reason::Code, now, done)
     }
@@ -196,7 +196,7 @@ impl NeighbourSession {
     ///
     /// `AdminDown` comes exactly where the neighbour is administratively down, `AlreadyOpen` exactly where a connection stands.
     pub fn opened(&mut self, now: u64, done: &mut Done) -> Result<(), SessionRefusal>
-        ensures ok { OnOk result (Does (takes events.Opened reasons.Code now) self.old self.new done.old done.new) }
+        ensures ok { OnOk result (Does (opens now) self.old self.new done.old done.new) }
         ensures refused { Refuses (open_refusal_in self.old.fsm.state) (IsSame self.old self.new done.old done.new) result }
     {
         match self.fsm.state {
@@ -212,7 +212,7 @@ impl NeighbourSession {
 
     /// The connection is lost, or couldn't be made. `NoConnection` comes exactly where none stands and none is being made.
     pub fn lost(&mut self, now: u64, done: &mut Done) -> Result<(), SessionRefusal>
-        ensures ok { OnOk result (Does (takes events.Lost reasons.Lost now) self.old self.new done.old done.new) }
+        ensures ok { OnOk result (Does (loses now) self.old self.new done.old done.new) }
         ensures refused { Refuses (loss_refusal_in self.old.fsm.state) (IsSame self.old self.new done.old done.new) result }
     {
         match self.fsm.state {
@@ -225,7 +225,7 @@ impl NeighbourSession {
 
     /// The time is told, and at most one deadline is reached: hold before keepalive before idle.
     pub fn time(&mut self, now: u64, done: &mut Done) -> Result<(), NoMemory>
-        ensures { OnOk result (Does (takes events.Deadline reasons.Code now) self.old self.new done.old done.new) }
+        ensures { OnOk result (Does (expires now) self.old self.new done.old done.new) }
     {
         self.take(&SessionEvent::Deadline, Reason::Code, now, done)
     }
@@ -463,7 +463,7 @@ impl NeighbourSession {
 
     /// The session is to end, since the peer announced more prefixes than it may: so many are held, so many may be.
     pub fn close(&mut self, held: u64, most: u32, now: u64, done: &mut Done) -> Result<(), NoMemory>
-        ensures { OnOk result (Does (takes events.Close (reasons.MaxPrefix held most) now) self.old self.new done.old done.new) }
+        ensures { OnOk result (Does (exceeds held most now) self.old self.new done.old done.new) }
     {
         let reason = Reason::MaxPrefix { held, most };
         self.take(&SessionEvent::Close, reason, now, done)
@@ -511,7 +511,7 @@ impl NeighbourSession {
 
     /// An operator takes the session down, or brings it up again.
     pub fn set_down(&mut self, down: bool, now: u64, done: &mut Done) -> Result<(), NoMemory>
-        ensures { OnOk result (Does (takes (if down then events.AdminDown else events.AdminUp) reasons.Code now) self.old self.new done.old done.new) }
+        ensures { OnOk result (Does (if down then goes_down now else comes_back now) self.old self.new done.old done.new) }
     {
         if down {
             self.take(&SessionEvent::AdminDown, Reason::Code, now, done)
@@ -522,7 +522,7 @@ impl NeighbourSession {
 
     /// An operator ends the connection. `NoConnection` comes exactly where none stands.
     pub fn clear(&mut self, now: u64, done: &mut Done) -> Result<(), SessionRefusal>
-        ensures ok { OnOk result (Does (takes events.Clear reasons.Code now) self.old self.new done.old done.new) }
+        ensures ok { OnOk result (Does (clears now) self.old self.new done.old done.new) }
         ensures refused { Refuses (connection_refusal self.old) (IsSame self.old self.new done.old done.new) result }
     {
         if !self.is_connected() {
@@ -619,7 +619,7 @@ impl NeighbourSession {
 
     /// The neighbour leaves the configuration: its session ends with 6/3 (RFC 4486).
     pub fn leave(&mut self, now: u64, done: &mut Done) -> Result<(), NoMemory>
-        ensures { OnOk result (Does (takes (events.Ends 3) reasons.Code now) self.old self.new done.old done.new) }
+        ensures { OnOk result (Does (leaves now) self.old self.new done.old done.new) }
     {
         self.take(&SessionEvent::Ends(3), Reason::Code, now, done)
     }

@@ -6,7 +6,8 @@ use Rattle.std.specs.Ordering.{nat_cmp}
 use Rattle.net_base.specs.declared.addr.Addr.{Addr}
 use Rattle.net_base.specs.contracts.addr.AddrOrd.TheImpl.{cmp-value as addr_order}
 use Rattle.conf_tree.specs.declared.conf.Conf.{Conf}
-use Rattle.reload_stage.specs.Stages.{Taken}
+use Rattle.conf_tree.specs.Empty.{empty_conf}
+use Rattle.reload_stage.specs.Stages.{Taken, nothing_taken}
 use Rattle.peer_session.specs.Neighbour.{Neighbour}
 
 -- the neighbours of the configuration, by address
@@ -28,9 +29,24 @@ pub record Sessions : Type 0 where
   pub assembly : Taken
   pub spent : Bool
 
--- the neighbour of that address, which the order of addresses finds
+-- before the first call
+abbrev pub new_sessions : Sessions
+new_sessions = record {
+  conf = empty_conf;
+  moment = 0;
+  neighbours = [];
+  live = record { peers = []; last = 0 };
+  assembly = nothing_taken;
+  spent = false;
+}
+
+-- whether an address is this one, by the order of addresses
+abbrev pub is_peer : Addr → Addr → Bool
+is_peer peer = is_at (addr_order.it peer)
+
+-- the neighbour of that address
 abbrev pub peer_at : Addr → Peers → Option Neighbour
-peer_at peer peers = lookup (is_at (addr_order.it peer)) peers
+peer_at peer peers = lookup (is_peer peer) peers
 
 -- the neighbour of the session of that number, if it is up
 abbrev pub live_peer : ℕ → Live → Option Addr

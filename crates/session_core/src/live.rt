@@ -22,7 +22,8 @@ impl Model for LiveSessions {
 }
 
 impl LiveSessions {
-    ghost use Rattle.std.specs.Prelude.{◌≡◌, []};
+    ghost use Rattle.std.specs.Prelude.{◌≡◌, [], OnOk};
+    ghost use Rattle.session_core.specs.Numbers.{noted, noted_frame};
     ghost use Rattle.session_core.specs.Sessions.{live_peer};
 
     /// No session came up yet.
@@ -53,7 +54,9 @@ impl LiveSessions {
     }
 
     /// Keeps the numbers by what was written.
-    pub(crate) fn note_all(&mut self, frames: &SendList) -> Result<(), NoMemory> {
+    pub(crate) fn note_all(&mut self, frames: &SendList) -> Result<(), NoMemory>
+        ensures { OnOk result (self.new ≡ noted frames.now self.old) }
+    {
         for (_, frame) in frames {
             self.note(frame)?;
         }
@@ -61,7 +64,9 @@ impl LiveSessions {
     }
 
     /// Keeps the numbers by a frame that was written.
-    fn note(&mut self, frame: &Frame) -> Result<(), NoMemory> {
+    fn note(&mut self, frame: &Frame) -> Result<(), NoMemory>
+        ensures { OnOk result (self.new ≡ noted_frame frame.now self.old) }
+    {
         match frame {
             Frame::Up { session, peer, .. } => {
                 self.peers.insert(*session, *peer)?;

@@ -1,12 +1,20 @@
-ghost use Rattle.std.specs.Prelude.{◌≡◌, []};
-ghost use Rattle.session_core.specs.Calls.{CanRouteTo};
+ghost use Rattle.std.specs.Prelude.{◌≡◌, ◌++◌, [], map, None, Some, IfOk, OnOk};
+ghost use Rattle.std.specs.Map.{keys_of, values_of};
+ghost use Rattle.peer_session.specs.Calls.{Refuses};
+ghost use Rattle.peer_session.specs.Neighbour.{Does};
+ghost use Rattle.session_core.specs.declared.event.PeerEvent.TheVariants.{All};
+ghost use Rattle.session_core.specs.Courses.{HandlesAt, at_neighbour, courses, for_all};
+ghost use Rattle.session_core.specs.Events.{CanHappenAt, bytes_refusal, happens, refusal_at};
+ghost use Rattle.session_core.specs.Reloads.{changes_found, comes_at, leaving, plan_of, reconfigures, reloads};
 ghost use Rattle.session_core.specs.Sessions.{outbox_at, peer_at, stalled_at};
+ghost use Rattle.session_core.specs.Shows.{neighbour_row, neighbour_rows, row_of, row_refusal, rows_refusal, summary_row};
 
+use crate::event::{AllEvent, PeerEvent};
 use crate::settings::settings_of;
-use attr_model::Attrs;
+use crate::shows::{push_row, push_summary};
 use conf_tree::Conf;
-use core_msgs::{Done, Line, Row, SessionAction, State};
-use net_base::{Addr, NoMemory, PrefixList};
+use core_msgs::Done;
+use net_base::{Addr, Items, NoMemory};
 use peer_session::{NeighbourSession, SessionRefusal, Settings};
 use std::alloc::Global;
 use std::collections::BTreeMap;
@@ -61,17 +69,25 @@ impl Neighbours {
         }
     }
 
-    /// A connection with a neighbour stands.
-    pub(crate) fn opened(
+    /// Something happens to one neighbour. Where it isn't there, that is refused, or passed over.
+    pub(crate) fn happen(
         &mut self,
         peer: Addr,
+        event: PeerEvent,
         now: u64,
         done: &mut Done,
-    ) -> Result<(), SessionRefusal> {
+    ) -> Result<(), SessionRefusal>
+        requires { CanHappenAt event (peer_at peer self.old) }
+        ensures ok { OnOk result (courses self.new done.new ≡ at_neighbour peer (happens event now) (courses self.old done.old)) }
+        ensures refused { Refuses (refusal_at event (peer_at peer self.old)) (courses self.new done.new ≡ courses self.old done.old) result }
+    {
         let Some(neighbour) = self.by_address.get_mut(&peer) else {
-            return Err(SessionRefusal::UnknownNeighbour);
+            return match event.unknown_refusal() {
+                Some(refusal) => Err(refusal),
+                None => Ok(()),
+            };
         };
-        neighbour.opened(now, done)
+        event.happen(neighbour, now, done)
     }
 
     /// Bytes of a neighbour come. A session that comes up has the number `number`.
@@ -82,120 +98,82 @@ impl Neighbours {
         number: u32,
         now: u64,
         done: &mut Done,
-    ) -> Result<(), SessionRefusal> {
+    ) -> Result<(), SessionRefusal>
+        ensures ok { OnOk result (HandlesAt peer piece.now number now (courses self.old done.old) (courses self.new done.new)) }
+        ensures refused { Refuses (bytes_refusal (peer_at peer self.old)) (courses self.new done.new ≡ courses self.old done.old) result }
+    {
         let Some(neighbour) = self.by_address.get_mut(&peer) else {
             return Err(SessionRefusal::NoConnection);
         };
         neighbour.bytes(piece, number, now, done)
     }
 
-    /// The connection with a neighbour is lost.
-    pub(crate) fn lost(
+    /// Something happens to all neighbours, by address. Only memory can stop it.
+    pub(crate) fn happen_to_all(
         &mut self,
-        peer: Addr,
+        event: AllEvent,
         now: u64,
-        done: &mut Done,
-    ) -> Result<(), SessionRefusal> {
-        let Some(neighbour) = self.by_address.get_mut(&peer) else {
-            return Err(SessionRefusal::NoConnection);
-        };
-        neighbour.lost(now, done)
-    }
-
-    /// So many bytes at most are sent to a neighbour.
-    pub(crate) fn write(
-        &mut self,
-        peer: Addr,
-        n: usize,
-        done: &mut Done,
-    ) -> Result<(), SessionRefusal> {
-        let Some(neighbour) = self.by_address.get_mut(&peer) else {
-            return Err(SessionRefusal::UnknownNeighbour);
-        };
-        neighbour.write(n, done)
-    }
-
-    /// A neighbour takes no bytes for now, or takes them again.
-    pub(crate) fn stall(&mut self, peer: Addr, stalled: bool) -> Result<(), SessionRefusal> {
-        let Some(neighbour) = self.by_address.get_mut(&peer) else {
-            return Err(SessionRefusal::UnknownNeighbour);
-        };
-        neighbour.stall(stalled)
-    }
-
-    /// What an operator does to the session with a neighbour.
-    pub(crate) fn act(
-        &mut self,
-        peer: Addr,
-        action: SessionAction,
-        now: u64,
-        done: &mut Done,
-    ) -> Result<(), SessionRefusal> {
-        let Some(neighbour) = self.by_address.get_mut(&peer) else {
-            return Err(SessionRefusal::UnknownNeighbour);
-        };
-        act(neighbour, action, now, done)
-    }
-
-    /// The session of a neighbour is to end, since so many prefixes are held where so many may be.
-    pub(crate) fn close(
-        &mut self,
-        peer: Addr,
-        held: u64,
-        most: u32,
-        now: u64,
-        done: &mut Done,
-    ) -> Result<(), NoMemory> {
-        let Some(neighbour) = self.by_address.get_mut(&peer) else {
-            return Ok(());
-        };
-        neighbour.close(held, most, now, done)
-    }
-
-    /// Routes for a neighbour, as one UPDATE.
-    pub(crate) fn routes(
-        &mut self,
-        peer: Addr,
-        withdrawn: PrefixList,
-        announced: Option<(Attrs, PrefixList)>,
         done: &mut Done,
     ) -> Result<(), NoMemory>
-        requires { CanRouteTo (peer_at peer self.old) withdrawn announced }
+        ensures { OnOk result (courses self.new done.new ≡ for_all (happens (All event) now) (courses self.old done.old)) }
+    {
+        let addresses = self.addresses()?;
+        for peer in &addresses {
+            self.happen_to(*peer, event, now, done)?;
+        }
+        Ok(())
+    }
+
+    /// The addresses in their order.
+    fn addresses(&self) -> Result<Items<Addr>, NoMemory>
+        ensures { IfOk result (λ addresses. addresses ≡ keys_of self.now) }
+    {
+        let addresses = self.by_address.keys().copied().collect(self.alloc)?;
+        Ok(Items::from_vec(addresses))
+    }
+
+    /// It happens to one of them.
+    fn happen_to(
+        &mut self,
+        peer: Addr,
+        event: AllEvent,
+        now: u64,
+        done: &mut Done,
+    ) -> Result<(), NoMemory>
+        ensures { OnOk result (courses self.new done.new ≡ at_neighbour peer (happens (All event) now) (courses self.old done.old)) }
     {
         let Some(neighbour) = self.by_address.get_mut(&peer) else {
             return Ok(());
         };
-        neighbour.routes(withdrawn, announced, done)
-    }
-
-    /// The time is told to all, by address.
-    pub(crate) fn time(&mut self, now: u64, done: &mut Done) -> Result<(), NoMemory> {
-        for neighbour in self.by_address.values_mut() {
-            neighbour.time(now, done)?;
-        }
-        Ok(())
-    }
-
-    /// All sessions end with 6/2, by address.
-    pub(crate) fn stop(&mut self, now: u64, done: &mut Done) -> Result<(), NoMemory> {
-        for neighbour in self.by_address.values_mut() {
-            neighbour.set_down(true, now, done)?;
-        }
-        Ok(())
+        event.happen(neighbour, now, done)
     }
 
     /// The neighbours become those of a configuration, one by one by address.
-    pub(crate) fn apply(&mut self, conf: &Conf, now: u64, done: &mut Done) -> Result<(), NoMemory> {
-        let mut plan = self.plan_to_leave()?;
-        plan_all(conf, &mut plan)?;
+    pub(crate) fn apply(&mut self, conf: &Conf, now: u64, done: &mut Done) -> Result<(), NoMemory>
+        ensures { OnOk result (courses self.new done.new ≡ reloads (plan_of conf.now self.old) now (courses self.old done.old)) }
+    {
+        let plan = self.plan(conf)?;
         for (peer, wanted) in &plan {
             self.change(*peer, *wanted, now, done)?;
         }
         Ok(())
     }
 
+    /// What becomes of each neighbour under a configuration.
+    fn plan(&self, conf: &Conf) -> Result<Plan, NoMemory>
+        ensures { IfOk result (λ plan. plan.entries ≡ plan_of conf.now self.now) }
+    {
+        let mut plan = self.plan_to_leave()?;
+        for neighbour in &conf.neighbours {
+            plan.insert(neighbour.address, Some(settings_of(conf, neighbour)))?;
+        }
+        Ok(plan)
+    }
+
     /// Each neighbour goes.
-    fn plan_to_leave(&self) -> Result<Plan, NoMemory> {
+    fn plan_to_leave(&self) -> Result<Plan, NoMemory>
+        ensures { IfOk result (λ plan. plan.entries ≡ leaving (keys_of self.now) []) }
+    {
         let mut plan = BTreeMap::new(self.alloc);
         for peer in self.by_address.keys() {
             plan.insert(*peer, None)?;
@@ -209,7 +187,9 @@ impl Neighbours {
         wanted: Option<Settings>,
         now: u64,
         done: &mut Done,
-    ) -> Result<(), NoMemory> {
+    ) -> Result<(), NoMemory>
+        ensures { OnOk result (courses self.new done.new ≡ changes_found peer wanted now (peer_at peer self.old) (courses self.old done.old)) }
+    {
         match wanted {
             Some(settings) => self.configure(peer, settings, now, done),
             None => self.leave(peer, now, done),
@@ -223,10 +203,25 @@ impl Neighbours {
         settings: Settings,
         now: u64,
         done: &mut Done,
-    ) -> Result<(), NoMemory> {
-        if let Some(neighbour) = self.by_address.get_mut(&peer) {
-            return neighbour.configure(settings, now, done);
-        }
+    ) -> Result<(), NoMemory>
+        ensures { OnOk result (courses self.new done.new ≡ changes_found peer (Some settings) now (peer_at peer self.old) (courses self.old done.old)) }
+    {
+        let Some(neighbour) = self.by_address.get_mut(&peer) else {
+            return self.come(peer, settings, now, done);
+        };
+        reconfigure(neighbour, settings, now, done)
+    }
+
+    /// A neighbour comes.
+    fn come(
+        &mut self,
+        peer: Addr,
+        settings: Settings,
+        now: u64,
+        done: &mut Done,
+    ) -> Result<(), NoMemory>
+        ensures { OnOk result (courses self.new done.new ≡ comes_at peer settings now (courses self.old done.old)) }
+    {
         let mut neighbour = NeighbourSession::new(self.alloc, peer, settings);
         neighbour.comes(now, done)?;
         self.by_address.insert(peer, neighbour)?;
@@ -234,7 +229,9 @@ impl Neighbours {
     }
 
     /// A neighbour goes.
-    fn leave(&mut self, peer: Addr, now: u64, done: &mut Done) -> Result<(), NoMemory> {
+    fn leave(&mut self, peer: Addr, now: u64, done: &mut Done) -> Result<(), NoMemory>
+        ensures { OnOk result (courses self.new done.new ≡ changes_found peer None now (peer_at peer self.old) (courses self.old done.old)) }
+    {
         let Some(mut neighbour) = self.by_address.remove(&peer) else {
             return Ok(());
         };
@@ -242,78 +239,55 @@ impl Neighbours {
     }
 
     /// A row for each neighbour, by address: its AS number and the state of its session.
-    pub(crate) fn show_summary(&self, done: &mut Done) -> Result<(), NoMemory> {
+    pub(crate) fn show_summary(&self, done: &mut Done) -> Result<(), NoMemory>
+        ensures { OnOk result (done.new ≡ record done.old { lines = done.old.lines ++ map summary_row self.now }) }
+    {
         for (peer, neighbour) in &self.by_address {
-            let row = Row::Summary {
-                peer: *peer,
-                asn: neighbour.asn(),
-                state: state_of(neighbour),
-            };
-            done.lines.push(Line::Row(row))?;
+            push_summary(*peer, neighbour, &mut done.lines)?;
         }
         Ok(())
     }
 
-    /// A longer row for each neighbour, by address.
-    pub(crate) fn show_all(&self, done: &mut Done) -> Result<(), NoMemory> {
+    /// A longer row for each neighbour, by address, or for one.
+    pub(crate) fn show(&self, peer: Option<Addr>, done: &mut Done) -> Result<(), SessionRefusal>
+        ensures ok { OnOk result (done.new ≡ record done.old { lines = done.old.lines ++ neighbour_rows peer self.now }) }
+        ensures refused { Refuses (rows_refusal peer self.now) (done.new ≡ done.old) result }
+    {
+        match peer {
+            Some(peer) => self.show_one(peer, done),
+            None => Ok(self.show_all(done)?),
+        }
+    }
+
+    fn show_all(&self, done: &mut Done) -> Result<(), NoMemory>
+        ensures { OnOk result (done.new ≡ record done.old { lines = done.old.lines ++ map neighbour_row (values_of self.now) }) }
+    {
         for neighbour in self.by_address.values() {
-            push_row(neighbour, done)?;
+            push_row(neighbour, &mut done.lines)?;
         }
         Ok(())
     }
 
-    /// The longer row of one neighbour.
-    pub(crate) fn show(&self, peer: Addr, done: &mut Done) -> Result<(), SessionRefusal> {
+    fn show_one(&self, peer: Addr, done: &mut Done) -> Result<(), SessionRefusal>
+        ensures ok { OnOk result (done.new ≡ record done.old { lines = done.old.lines ++ row_of (peer_at peer self.now) }) }
+        ensures refused { Refuses (row_refusal (peer_at peer self.now)) (done.new ≡ done.old) result }
+    {
         let Some(neighbour) = self.by_address.get(&peer) else {
             return Err(SessionRefusal::UnknownNeighbour);
         };
-        push_row(neighbour, done)?;
+        push_row(neighbour, &mut done.lines)?;
         Ok(())
     }
 }
 
-/// Each neighbour of a configuration has its settings.
-fn plan_all(conf: &Conf, plan: &mut Plan) -> Result<(), NoMemory> {
-    for neighbour in &conf.neighbours {
-        plan.insert(neighbour.address, Some(settings_of(conf, neighbour)))?;
-    }
-    Ok(())
-}
-
-fn act(
+/// A neighbour that is there has new settings.
+fn reconfigure(
     neighbour: &mut NeighbourSession,
-    action: SessionAction,
+    settings: Settings,
     now: u64,
     done: &mut Done,
-) -> Result<(), SessionRefusal> {
-    match action {
-        SessionAction::Up => neighbour.set_down(false, now, done)?,
-        SessionAction::Down => neighbour.set_down(true, now, done)?,
-        SessionAction::Clear => return neighbour.clear(now, done),
-        SessionAction::Refresh => return neighbour.refresh(),
-    }
-    Ok(())
-}
-
-fn state_of(neighbour: &NeighbourSession) -> State {
-    match neighbour.state() {
-        session_fsm::State::Down => State::Down,
-        session_fsm::State::Idle => State::Idle,
-        session_fsm::State::Connect => State::Connect,
-        session_fsm::State::Active => State::Active,
-        session_fsm::State::OpenSent => State::OpenSent,
-        session_fsm::State::OpenConfirm => State::OpenConfirm,
-        session_fsm::State::Established => State::Established,
-    }
-}
-
-fn push_row(neighbour: &NeighbourSession, done: &mut Done) -> Result<(), NoMemory> {
-    let row = Row::Neighbour {
-        peer: neighbour.peer(),
-        asn: neighbour.asn(),
-        state: state_of(neighbour),
-        hold: neighbour.hold(),
-        outbox: neighbour.outbox().len() as u64,
-    };
-    done.lines.push(Line::Row(row))
+) -> Result<(), NoMemory>
+    ensures { OnOk result (Does (reconfigures settings now) neighbour.old neighbour.new done.old done.new) }
+{
+    neighbour.configure(settings, now, done)
 }

@@ -1,11 +1,16 @@
 //! What a configuration says of its neighbours.
 
+ghost use Rattle.std.specs.Prelude.{◌≡◌};
+ghost use Rattle.session_core.specs.Reloads.{settings_in};
+
 use bgp_wire::OpenRules;
 use conf_tree::{Conf, Neighbour};
 use peer_session::Settings;
 
 /// What a configuration says of the sessions with one of its neighbours.
-pub(crate) fn settings_of(conf: &Conf, neighbour: &Neighbour) -> Settings {
+pub(crate) fn settings_of(conf: &Conf, neighbour: &Neighbour) -> Settings
+    ensures { result ≡ settings_in conf.now neighbour.now }
+{
     let rules = OpenRules {
         asn: conf.asn,
         remote_as: neighbour.remote_as,

@@ -1,63 +1,92 @@
-//! The rows and tables that the session core answers by itself.
+//! The rows and frames with which the session core answers control commands by itself.
 
-use conf_tree::{Conf, SetKind, Text};
-use core_msgs::{Core, Done, Frame, Line, Row};
-use net_base::NoMemory;
-use std::alloc::Global;
+ghost use Rattle.std.specs.Prelude.{◌≡◌, ◌++◌, ◌∷◌, [], OnOk};
+ghost use Rattle.peer_session.specs.Calls.{Refuses};
+ghost use Rattle.session_core.specs.Shows.{couple_frames, neighbour_row, rib_refusal, shown_state, summary_row, table_refusal};
 
-/// Whether a configuration has a kernel table of this number. The empty configuration has none.
-pub(crate) fn has_table(conf: &Conf, number: u32) -> bool {
-    if conf.asn == 0 {
-        return false;
+use conf_shows::{couple_all, has_rib, has_table, push_couple};
+use conf_tree::{Conf, Text};
+use core_msgs::{Line, LineList, Row, SendList, State};
+use net_base::{Addr, NoMemory};
+use peer_session::{NeighbourSession, SessionRefusal};
+
+/// Refuses a number that no kernel table of the configuration has.
+pub(crate) fn refuse_table(conf: &Conf, table: Option<u32>) -> Result<(), SessionRefusal>
+    ensures { Refuses (table_refusal conf.now table) (Unit {0}) result }
+{
+    match table {
+        Some(table) if !has_table(conf, table) => Err(SessionRefusal::UnknownTable),
+        _ => Ok(()),
     }
-    number == 0
-        || conf.ribs.iter().any(|rib| rib.table.map(|table| u32::from(table)) == Some(number))
 }
 
-/// Whether a configuration has a RIB of this name.
-pub(crate) fn has_rib(conf: &Conf, name: &Text) -> bool {
-    name.as_slice() == b"Loc-RIB".as_slice() || conf.ribs.iter().any(|rib| rib.name == *name)
+/// Refuses a name that no RIB of the configuration has.
+pub(crate) fn refuse_rib(conf: &Conf, name: &Option<Text>) -> Result<(), SessionRefusal>
+    ensures { Refuses (rib_refusal conf.now name.now) (Unit {0}) result }
+{
+    match name {
+        Some(name) if !has_rib(conf, name) => Err(SessionRefusal::UnknownRib),
+        _ => Ok(()),
+    }
 }
 
-/// Writes a frame for each kernel table of the configuration, by number.
-pub(crate) fn couple_all(conf: &Conf, on: bool, done: &mut Done) -> Result<(), NoMemory> {
-    for table in 0..256 {
-        if has_table(conf, table) {
-            done.frames
-                .push((Core::Parent, Frame::Couple { table, on }))?;
-        }
+/// Writes a frame for a kernel table, or for each of the configuration by number, that couples or decouples it.
+pub(crate) fn couple(
+    conf: &Conf,
+    table: Option<u32>,
+    on: bool,
+    frames: &mut SendList,
+) -> Result<(), SessionRefusal>
+    ensures ok { OnOk result (frames.new ≡ frames.old ++ couple_frames conf.now table on) }
+    ensures refused { Refuses (table_refusal conf.now table) (frames.new ≡ frames.old) result }
+{
+    refuse_table(conf, table)?;
+    match table {
+        Some(table) => Ok(push_couple(table, on, frames)?),
+        None => Ok(couple_all(conf, on, frames)?),
     }
-    Ok(())
 }
 
-/// A row for each set of the configuration.
-pub(crate) fn show_sets(conf: &Conf, done: &mut Done) -> Result<(), NoMemory> {
-    for set in &conf.prefix_sets {
-        push_set(SetKind::Prefix, &set.name, set.entries.len(), done)?;
-    }
-    for set in &conf.as_sets {
-        push_set(SetKind::As, &set.name, set.numbers.len(), done)?;
-    }
-    for set in &conf.origin_sets {
-        push_set(SetKind::Origin, &set.name, set.entries.len(), done)?;
-    }
-    if !conf.roas.is_empty() {
-        done.lines
-            .push(Line::Row(Row::RoaSet(number_of(conf.roas.len()))))?;
-    }
-    Ok(())
-}
-
-fn push_set(kind: SetKind, name: &Text, count: usize, done: &mut Done) -> Result<(), NoMemory> {
-    let row = Row::Set {
-        kind,
-        name: name.clone()?,
-        count: number_of(count),
+/// A neighbour in one line: its AS number and the state of its session.
+pub(crate) fn push_summary(
+    peer: Addr,
+    neighbour: &NeighbourSession,
+    lines: &mut LineList,
+) -> Result<(), NoMemory>
+    ensures { OnOk result (lines.new ≡ lines.old ++ summary_row (peer, neighbour.now) ∷ []) }
+{
+    let row = Row::Summary {
+        peer,
+        asn: neighbour.asn(),
+        state: state_of(neighbour),
     };
-    done.lines.push(Line::Row(row))
+    lines.push(Line::Row(row))
 }
 
-/// A count as a number of a row, which stays at its last value.
-fn number_of(count: usize) -> u32 {
-    count.min(u32::MAX as usize) as u32
+/// The same with its hold time and the length of its outbox.
+pub(crate) fn push_row(neighbour: &NeighbourSession, lines: &mut LineList) -> Result<(), NoMemory>
+    ensures { OnOk result (lines.new ≡ lines.old ++ neighbour_row neighbour.now ∷ []) }
+{
+    let row = Row::Neighbour {
+        peer: neighbour.peer(),
+        asn: neighbour.asn(),
+        state: state_of(neighbour),
+        hold: neighbour.hold(),
+        outbox: neighbour.outbox().len() as u64,
+    };
+    lines.push(Line::Row(row))
+}
+
+fn state_of(neighbour: &NeighbourSession) -> State
+    ensures { result ≡ shown_state neighbour.now.fsm.state }
+{
+    match neighbour.state() {
+        session_fsm::State::Down => State::Down,
+        session_fsm::State::Idle => State::Idle,
+        session_fsm::State::Connect => State::Connect,
+        session_fsm::State::Active => State::Active,
+        session_fsm::State::OpenSent => State::OpenSent,
+        session_fsm::State::OpenConfirm => State::OpenConfirm,
+        session_fsm::State::Established => State::Established,
+    }
 }

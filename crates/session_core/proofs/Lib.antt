@@ -1,0 +1,5 @@
+mod Climbing
+mod Finishing
+mod Meeting
+mod Numbering
+mod Rules
