@@ -1,0 +1,5 @@
+mod Held
+mod Answers
+mod Verdicts
+mod Uses
+mod EachSession
