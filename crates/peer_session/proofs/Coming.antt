@@ -27,9 +27,9 @@ use Rattle.peer_session.specs.declared.neighbour.Settings.{Settings}
 use Rattle.peer_session.specs.declared.hearing.Heard.{Heard}
 use Rattle.peer_session.specs.declared.hearing.Heard.TheVariants as says
 use Rattle.peer_session.specs.Calls.{comes_back_where, configures, credit_frame, credit_frames, ends_for_rules, goes_down, is_passed_over, number_of, routes_by, routes_to, with_settings, writes}
-use Rattle.peer_session.specs.Frames.{family_frames, group_frames, groups_in, prefixes_in, update_frames, ups, withdrawn_frames}
-use Rattle.peer_session.specs.Neighbour.{Course, Neighbour, is_connected, is_established, reports, sends_where, tells}
-use Rattle.peer_session.specs.Steps.{Handles, comes_up_by, comes_up_where, connect_lines, down_frames, ends_where, goes, goes_on, handles, handles_front, heard_front, hears_open, is_agreed, is_there, keeps_alive, passes, refresh_frames, sends_by, stops, takes, takes_by, tells_refresh, tells_update, up_frame}
+use Rattle.peer_session.specs.Frames.{family_frames, group_frames, groups_in, prefixes_in, update_frames, ups}
+use Rattle.peer_session.specs.Neighbour.{Course, Neighbour, is_connected, is_established, sends_where, tells}
+use Rattle.peer_session.specs.Steps.{Handles, comes_up_by, down_frames, ends_where, goes, handles, handles_front, heard_front, hears_open, is_agreed, is_there, keeps_alive, passes, refresh_frames, sends_by, stops, takes, takes_by, tells_refresh, tells_update, up_frame}
 
 abbrev Sent : Type 0
 Sent = List (Core × Frame)

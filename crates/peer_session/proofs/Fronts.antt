@@ -1,12 +1,12 @@
 -- The message in front of a peer's bytes.
-use Rattle.std.proofs.Common.{◌≡◌, ◌∙◌, ℕ, ◌+◌, ◌-◌, ◌<◌, ◌≤◌, Bool, true, false, List, length, drop, take, Option, Some, None, refl, ap, sym, arith, length-drop}
+use Rattle.std.proofs.Common.{◌≡◌, ℕ, ◌+◌, ◌≤◌, Bool, true, false, List, length, drop, take, Option, Some, None, refl, sym, arith, length-drop}
 use Rattle.std.specs.Prelude.{◌||◌, not, nat_lt, cond}
 use Rattle.std.proofs.lemmas.Option.{none-some}
 use Rattle.std.proofs.lemmas.List.{length-take-le}
 use Rattle.bgp_wire.specs.declared.notify.Notify.{Notify}
 use Rattle.bgp_wire.specs.declared.front.Cut.TheVariants as cuts
 use Rattle.bgp_wire.specs.Message.{Header, IsGood, cut_of, fits_kind, header_of, is_all_ones}
-use Rattle.bgp_wire.proofs.Stream.{cut_fault, cut_message, good_size}
+use Rattle.bgp_wire.proofs.Stream.{cut_message, good_size}
 
 row_none : (b : Bool) (fault : Notify) (others : Option Notify) → cond b (Some fault) others ≡ None → (b ≡ false) × (others ≡ None)
 row_none true fault others h = absurd (none-some fault (sym h))

@@ -1,5 +1,5 @@
 -- Each message that is handled leaves fewer bytes.
-use Rattle.std.proofs.Common.{◌≡◌, ◌∙◌, ◌&&◌, not, cond, ℕ, ◌+◌, ◌-◌, ◌<◌, ◌≤◌, Bool, true, false, List, [], length, drop, Option, Some, None, refl, ap, sym, subst, arith, length-drop}
+use Rattle.std.proofs.Common.{◌≡◌, ◌∙◌, ◌&&◌, not, cond, ℕ, ◌+◌, ◌-◌, ◌<◌, ◌≤◌, Bool, true, false, [], length, drop, Option, Some, None, refl, ap, sym, subst, arith, length-drop}
 use Rattle.session_fsm.specs.declared.event.Actions.{Actions}
 use Rattle.session_fsm.specs.declared.event.SessionEvent.{SessionEvent}
 use Rattle.session_fsm.specs.declared.event.SessionEvent.TheVariants as events
@@ -21,7 +21,7 @@ use Rattle.peer_session.specs.declared.neighbour.Reason.TheVariants as reasons
 use Rattle.peer_session.specs.declared.hearing.Heard.{Heard}
 use Rattle.peer_session.specs.declared.hearing.Heard.TheVariants as says
 use Rattle.peer_session.specs.Neighbour.{Course, Does, Neighbour, course, is_connected, is_established, sends_where, tells}
-use Rattle.peer_session.specs.Steps.{Goes, Handles, IsHandled, goes, goes_on, stops, comes_up_by, comes_up_where, ends_where, handles, handles_front, hears_open, heard_front, keeps_alive, is_there, passes, refresh_frames, sends_by, takes, takes_by, tells_refresh, tells_update}
+use Rattle.peer_session.specs.Steps.{Goes, Handles, IsHandled, goes, goes_on, stops, comes_up_by, ends_where, handles, handles_front, hears_open, heard_front, is_there, passes, refresh_frames, sends_by, takes, takes_by, tells_refresh, tells_update}
 use Rattle.peer_session.specs.Frames.{update_frames}
 use Rattle.peer_session.proofs.Fronts.{front_is}
 

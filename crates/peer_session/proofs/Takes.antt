@@ -10,7 +10,7 @@ use Rattle.core_msgs.specs.declared.answer.Line.{Line}
 use Rattle.core_msgs.specs.declared.frame.Done.{Done}
 use Rattle.peer_session.specs.declared.neighbour.Reason.{Reason}
 use Rattle.peer_session.specs.declared.neighbour.Settings.{Settings}
-use Rattle.peer_session.specs.Neighbour.{Course, Does, Neighbour, course, is_connected, reports, sends_where}
+use Rattle.peer_session.specs.Neighbour.{Does, Neighbour, course, is_connected, reports, sends_where}
 use Rattle.peer_session.specs.Steps.{connect_lines, ends_where, takes}
 use Rattle.peer_session.specs.Calls.{comes_back_where, configures, ends_for_rules}
 

@@ -1,17 +1,15 @@
 -- The calls on a neighbour: when they are refused, and what they do otherwise.
-use Rattle.std.specs.Prelude.{◌≡◌, ℕ, ◌+◌, ◌-◌, ◌^◌, min, Bool, true, false, not, ◌&&◌, ◌||◌, ◌==◌, if◌then◌else◌, List, [], ◌∷◌, ◌++◌, take, Option, Some, None, is_some, Result, Ok, Err, IfErr}
+use Rattle.std.specs.Prelude.{◌≡◌, ℕ, ◌+◌, ◌-◌, ◌^◌, min, Bool, true, false, not, ◌&&◌, ◌==◌, if◌then◌else◌, List, [], ◌∷◌, ◌++◌, take, Option, Some, None, is_some, Result, Err, IfErr}
 use Rattle.net_base.specs.declared.addr.Addr.{Addr}
 use Rattle.net_base.specs.declared.addr.Family.TheVariants.{V4, V6}
 use Rattle.net_base.specs.declared.prefix.Prefix.{Prefix}
 use Rattle.attr_model.specs.declared.attrs.Attrs.{Attrs}
 use Rattle.session_fsm.specs.declared.event.SessionEvent.TheVariants as events
-use Rattle.session_fsm.specs.declared.peer.Peer.{Peer}
 use Rattle.session_fsm.specs.declared.peer.State.{State}
 use Rattle.session_fsm.specs.declared.peer.State.TheVariants as states
-use Rattle.session_fsm.specs.Table.{has_connection_in, is_up}
+use Rattle.session_fsm.specs.Table.{is_up}
 use Rattle.bgp_wire.specs.declared.open.Encoding.{Encoding}
 use Rattle.bgp_wire.specs.declared.open.OpenFacts.{OpenFacts}
-use Rattle.bgp_wire.specs.declared.open.OpenRules.{OpenRules}
 use Rattle.bgp_wire.specs.Written.{refresh_of}
 use Rattle.update_codec.specs.declared.out_update.OutUpdate.{OutUpdate}
 use Rattle.update_codec.specs.declared.out_update.OutUpdate.TheVariants.{Announce, Withdraw}

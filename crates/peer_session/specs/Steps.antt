@@ -6,7 +6,7 @@ use Rattle.net_base.specs.declared.addr.Family.TheVariants.{V4, V6}
 use Rattle.session_fsm.specs.declared.event.Actions.{Actions}
 use Rattle.session_fsm.specs.declared.event.SessionEvent.{SessionEvent}
 use Rattle.session_fsm.specs.declared.event.SessionEvent.TheVariants as events
-use Rattle.session_fsm.specs.Table.{Outcome, follows, has_connection_in, is_up}
+use Rattle.session_fsm.specs.Table.{Outcome, follows, has_connection_in}
 use Rattle.bgp_wire.specs.declared.front.Cut.{Cut}
 use Rattle.bgp_wire.specs.declared.front.Cut.TheVariants as cuts
 use Rattle.bgp_wire.specs.declared.open.Encoding.{Encoding}

@@ -1,5 +1,5 @@
 -- The sessions that come up have the numbers 1, 2, 3, .., each once.
-use Rattle.std.proofs.Common.{◌≡◌, ◌⊎◌, ◌∙◌, ℕ, ◌+◌, Bool, true, false, not, cond, List, [], ◌∷◌, ◌++◌, append-nil, map, filter, Option, Some, None, Result, Ok, Err, inl, inr, refl, sym, ap, subst, arith}
+use Rattle.std.proofs.Common.{◌≡◌, ◌⊎◌, ◌∙◌, ℕ, ◌+◌, Bool, true, false, not, cond, List, [], ◌∷◌, ◌++◌, append-nil, map, filter, Option, Some, None, Result, Ok, Err, inl, inr, refl, sym, ap, arith}
 use Rattle.std.proofs.lemmas.List.FromFn.{map-range_with_len_more}
 use Rattle.std.specs.List.{range_with_len}
 use Rattle.std.specs.Map.{keys_of}
@@ -17,12 +17,11 @@ use Rattle.core_msgs.specs.declared.frame.Frame.{Frame}
 use Rattle.core_msgs.specs.declared.frame.Frame.TheVariants as frames
 use Rattle.core_msgs.specs.declared.parts.Core.{Core}
 use Rattle.core_msgs.specs.declared.parts.Core.TheVariants.{Parent}
-use Rattle.reload_stage.specs.declared.item.StageItem.{StageItem}
-use Rattle.reload_stage.specs.declared.item.StageItem.TheVariants.{Begin, Piece, Commit}
-use Rattle.reload_stage.specs.Stages.{can_follow, taken_then}
+use Rattle.reload_stage.specs.declared.item.StageItem.TheVariants.{Commit}
+use Rattle.reload_stage.specs.Stages.{can_follow}
 use Rattle.peer_session.specs.declared.neighbour.Settings.{Settings}
 use Rattle.peer_session.specs.Calls.{fresh}
-use Rattle.peer_session.specs.Frames.{number_up, ups}
+use Rattle.peer_session.specs.Frames.{ups}
 use Rattle.peer_session.specs.Neighbour.{Course, Neighbour}
 use Rattle.peer_session.specs.Steps.{feeds}
 use Rattle.peer_session.proofs.Coming.{configures_quiet, handles_ups, quiet_more, routes_quiet, takes_quiet, ups_more, writes_quiet}
@@ -30,13 +29,13 @@ use Rattle.session_core.specs.declared.event.AllEvent.{AllEvent}
 use Rattle.session_core.specs.declared.event.AllEvent.TheVariants.{Deadline, Stop}
 use Rattle.session_core.specs.declared.event.PeerEvent.{PeerEvent}
 use Rattle.session_core.specs.declared.event.PeerEvent.TheVariants as peer
-use Rattle.session_core.specs.Calls.{Gives, Hears, Reply, all_reply, apply_reply, command_reply, commit_reply, emptied, event_found, event_reply, frame_reply, item_reply, read_reply, still, time_reply}
+use Rattle.session_core.specs.Calls.{Gives, Hears, Reply, all_reply, apply_reply, command_reply, commit_reply, emptied, event_found, event_reply, frame_reply, read_reply, still}
 use Rattle.session_core.specs.Courses.{Courses, at_found, at_neighbour, begun, course_of, in_turn}
 use Rattle.session_core.specs.Events.{happens}
 use Rattle.session_core.specs.History.{Call, DoesCall, History, Opened, Lost, Heard, Told, Wrote, Stalled, Took, Applied, Commanded, Stopped, Stands, Step, written}
 use Rattle.session_core.specs.Numbers.{noted, noted_frame}
 use Rattle.session_core.specs.Reloads.{Plan, changes, changes_found, plan_of, reloads, same_rules}
-use Rattle.session_core.specs.Sessions.{Live, Peers, Sessions, live_peer, peer_at}
+use Rattle.session_core.specs.Sessions.{Live, Sessions, live_peer, peer_at}
 use Rattle.session_core.specs.Shows.{couple_frames}
 use Rattle.session_core.proofs.Numbering.{call_keeps}
 

@@ -1,5 +1,5 @@
 -- How a call ends whose work came to an outcome.
-use Rattle.std.proofs.Common.{◌≡◌, ◌≢◌, ◌∙◌, ℕ, ◌+◌, Bool, true, false, cond, List, [], Option, Some, None, Result, Ok, Err, OnOk, IfOk, IfErr, IsTrue, refl, sym, ap, subst}
+use Rattle.std.proofs.Common.{◌≡◌, ◌≢◌, ◌∙◌, ℕ, ◌+◌, Bool, true, false, cond, List, [], Option, Some, None, Result, Ok, Err, OnOk, IfOk, IfErr, IsTrue, sym, ap, subst}
 use Rattle.net_base.specs.declared.addr.Addr.{Addr}
 use Rattle.core_msgs.specs.declared.control.SessionAction.{SessionAction}
 use Rattle.core_msgs.specs.declared.control.SessionAction.TheVariants.{Up, Down, Clear, Refresh}
@@ -8,7 +8,7 @@ use Rattle.session_fsm.specs.declared.peer.State.{State}
 use Rattle.session_fsm.specs.declared.peer.State.TheVariants as states
 use Rattle.peer_session.specs.declared.refusal.SessionRefusal.{SessionRefusal}
 use Rattle.peer_session.specs.declared.refusal.SessionRefusal.TheVariants as refusals
-use Rattle.peer_session.specs.Calls.{Refuses as PeerRefuses, connection_refusal, loss_refusal_in, may_ask, open_refusal_in, refresh_refusal}
+use Rattle.peer_session.specs.Calls.{Refuses as PeerRefuses, loss_refusal_in, may_ask, open_refusal_in}
 use Rattle.peer_session.specs.Neighbour.{Neighbour, is_connected}
 use Rattle.session_core.specs.declared.event.PeerEvent.{PeerEvent}
 use Rattle.session_core.specs.declared.event.PeerEvent.TheVariants as peer

@@ -1,5 +1,5 @@
 -- What one neighbour does is what all do who are asked at its address.
-use Rattle.std.proofs.Common.{◌≡◌, ◌∙◌, ℕ, Bool, true, false, List, Option, Some, None, Result, Ok, Err, refl, sym, ap, subst}
+use Rattle.std.proofs.Common.{◌≡◌, ◌∙◌, ℕ, List, Option, Some, None, Result, Ok, Err, sym, ap, subst}
 use Rattle.std.proofs.lemmas.Map.Steps.{set_value_same}
 use Rattle.std.specs.Map.{set_value}
 use Rattle.std.specs.Prelude.{OnOk}

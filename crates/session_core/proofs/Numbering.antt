@@ -17,7 +17,7 @@ use Rattle.reload_stage.specs.declared.item.StageItem.TheVariants.{Begin, Piece,
 use Rattle.reload_stage.specs.Stages.{can_follow, taken_then}
 use Rattle.session_core.specs.declared.event.PeerEvent.{PeerEvent}
 use Rattle.session_core.specs.declared.event.PeerEvent.TheVariants as peer
-use Rattle.session_core.specs.Calls.{Gives, Reply, command_reply, commit_reply, emptied, event_found, frame_reply, item_reply, read_reply, session_reply, still}
+use Rattle.session_core.specs.Calls.{Gives, Reply, command_reply, commit_reply, emptied, event_found, frame_reply, item_reply, read_reply, still}
 use Rattle.session_core.specs.History.{Call, DoesCall, History, Opened, Lost, Heard, Told, Wrote, Stalled, Took, Applied, Commanded, Stopped, Stands, no_session, written}
 use Rattle.session_core.specs.Numbers.{noted, noted_frame}
 use Rattle.session_core.specs.Sessions.{Live, Sessions, live_peer}

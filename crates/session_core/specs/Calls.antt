@@ -24,7 +24,7 @@ use Rattle.session_core.specs.declared.event.AllEvent.{AllEvent}
 use Rattle.session_core.specs.declared.event.AllEvent.TheVariants.{Deadline}
 use Rattle.session_core.specs.declared.event.PeerEvent.{PeerEvent}
 use Rattle.session_core.specs.declared.event.PeerEvent.TheVariants as peer
-use Rattle.session_core.specs.Sessions.{Live, Peers, Sessions, live_peer, peer_at}
+use Rattle.session_core.specs.Sessions.{Peers, Sessions, live_peer, peer_at}
 use Rattle.session_core.specs.Courses.{Courses, HandlesAt, at_neighbour, begun, for_all}
 use Rattle.session_core.specs.Events.{CanHappenAt, happens, refusal_at}
 use Rattle.session_core.specs.Numbers.{noted}

@@ -1,5 +1,5 @@
 -- All neighbours, with what is reported and written in a call.
-use Rattle.std.specs.Prelude.{◌≡◌, ℕ, Bool, not, ◌&&◌, ◌==◌, List, [], ◌∷◌, ◌++◌, fold, Option, Some, None}
+use Rattle.std.specs.Prelude.{◌≡◌, ℕ, List, [], fold, Option, Some, None}
 use Rattle.std.specs.Map.{keys_of, set_value}
 use Rattle.net_base.specs.declared.addr.Addr.{Addr}
 use Rattle.core_msgs.specs.declared.answer.Line.{Line}

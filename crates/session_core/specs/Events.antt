@@ -1,7 +1,5 @@
 -- What happens to one neighbour beside the bytes that it sends: why that is refused, and what is done otherwise.
-use Rattle.std.specs.Prelude.{◌≡◌, ℕ, List, Option, Some, None, IsTrue}
-use Rattle.net_base.specs.declared.prefix.Prefix.{Prefix}
-use Rattle.attr_model.specs.declared.attrs.Attrs.{Attrs}
+use Rattle.std.specs.Prelude.{ℕ, Option, Some, None, IsTrue}
 use Rattle.core_msgs.specs.declared.control.SessionAction.{SessionAction}
 use Rattle.core_msgs.specs.declared.control.SessionAction.TheVariants.{Up, Down, Clear, Refresh}
 use Rattle.peer_session.specs.declared.refusal.SessionRefusal.{SessionRefusal}

@@ -1,4 +1,4 @@
-use Rattle.std.proofs.Common.{◌≡◌, ◌+◌, IfOk, ap, subst}
+use Rattle.std.proofs.Common.{◌+◌, IfOk, ap, subst}
 use Rattle.session_core.specs.Calls.{Hears}
 use Rattle.session_core.specs.Sessions.{Sessions}
 use Rattle.session_core.proofs.Finishing.{heard_follows, hears}

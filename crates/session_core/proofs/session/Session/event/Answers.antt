@@ -1,4 +1,4 @@
-use Rattle.std.proofs.Common.{◌≡◌, subst}
+use Rattle.std.proofs.Common.{subst}
 use Rattle.session_core.specs.Calls.{Refuses, refused_by}
 use Rattle.session_core.specs.Events.{refusal_at}
 use Rattle.session_core.specs.Sessions.{Sessions, peer_at}

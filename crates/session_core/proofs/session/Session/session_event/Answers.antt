@@ -1,4 +1,3 @@
-use Rattle.std.proofs.Common.{◌≡◌, Some}
 use Rattle.session_core.proofs.Finishing.{event_goes}
 use Rattle.session_core.proofs.session.Session.session_event.Goals as goal
 
