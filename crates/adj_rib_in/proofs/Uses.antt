@@ -8,40 +8,16 @@ use Rattle.std.specs.declared.cmp.Ordering.{Ordering}
 use Rattle.std.specs.declared.cmp.Ordering.TheVariants.{Less, Equal, Greater}
 use Rattle.std.specs.Ordering.{is_eq, match_ordering}
 use Rattle.std.proofs.lemmas.Bool.{eqb-true}
-use Rattle.std.proofs.lemmas.List.Sums.{sum_by-cons, sum_by-append}
 use Rattle.net_base.specs.declared.prefix.Prefix.{Prefix}
 use Rattle.attr_model.specs.Numbered.{Numbered}
 use Rattle.attr_intern.specs.Table.{times, IsOf}
+use Rattle.attr_intern.proofs.References.{times-cons, times-append, all_front, all_back, all_both}
 use Rattle.adj_rib_in.specs.declared.row.Entry.{Entry}
 use Rattle.adj_rib_in.specs.Row.{attrs_of, replaced, inserted, put, without, IsInOrder}
 use Rattle.net_base.specs.Order.{prefix_cmp}
 use Rattle.adj_rib_in.specs.Held.{Held, is_same, route_at, routes_of}
 use Rattle.adj_rib_in.proofs.Held.{ByPrefix, entry_by}
 use Rattle.adj_rib_in.specs.Uses.{refs_of_row, kept, refs_of_route, refs_of_routes, Swaps}
-
--- ---- counts
-
-times-cons : (number : ℕ) (one : Numbered) (rest : List Numbered) → times number (one ∷ rest) ≡ times number (one ∷ []) + times number rest
-times-cons number one rest =
-    let whole = sum_by-cons (λ (one : Numbered). cond (one.number == number) 1 0) one rest in
-    let alone = sum_by-cons (λ (one : Numbered). cond (one.number == number) 1 0) one [] in
-    omega arith
-
-times-append : (number : ℕ) (ones others : List Numbered) → times number (ones ++ others) ≡ times number ones + times number others
-times-append number ones others = sum_by-append (λ (one : Numbered). cond (one.number == number) 1 0) ones others
-
-module _ (P : Numbered → Type 0) where
-  front : (ones others : List Numbered) → AllByRecursion P (ones ++ others) → AllByRecursion P ones
-  front [] others all = tt
-  front (one ∷ rest) others all = (all.0, front rest others all.1)
-
-  back : (ones others : List Numbered) → AllByRecursion P (ones ++ others) → AllByRecursion P others
-  back [] others all = all
-  back (one ∷ rest) others all = back rest others all.1
-
-  both : (ones others : List Numbered) → AllByRecursion P ones → AllByRecursion P others → AllByRecursion P (ones ++ others)
-  both [] others first second = second
-  both (one ∷ rest) others first second = (first.0, both rest others first.1 second)
 
 -- ---- steps
 
@@ -52,16 +28,16 @@ pub swaps_behind : (ones old new coming going : List Numbered) → Swaps old new
 swaps_behind ones old new coming going swaps = record {
   uses = λ number. omega (arith, swaps.uses number, times-append number ones old, times-append number ones new);
   each = λ table all comes.
-      let rest = swaps.each table (back (IsOf table) ones old all) comes in
-      (both (IsOf table) ones new (front (IsOf table) ones old all) rest.0, rest.1);
+      let rest = swaps.each table (all_back (IsOf table) ones old all) comes in
+      (all_both (IsOf table) ones new (all_front (IsOf table) ones old all) rest.0, rest.1);
 }
 
 pub swaps_before : (ones old new coming going : List Numbered) → Swaps old new coming going → Swaps (old ++ ones) (new ++ ones) coming going
 swaps_before ones old new coming going swaps = record {
   uses = λ number. omega (arith, swaps.uses number, times-append number old ones, times-append number new ones);
   each = λ table all comes.
-      let rest = swaps.each table (front (IsOf table) old ones all) comes in
-      (both (IsOf table) new ones rest.0 (back (IsOf table) old ones all), rest.1);
+      let rest = swaps.each table (all_front (IsOf table) old ones all) comes in
+      (all_both (IsOf table) new ones rest.0 (all_back (IsOf table) old ones all), rest.1);
 }
 
 -- a step behind one by which nothing comes
@@ -71,7 +47,7 @@ swaps_on old mid new coming first second one other = record {
   each = λ table all comes.
       let mids = one.each table all tt in
       let news = other.each table mids.0 comes in
-      (news.0, both (IsOf table) first second mids.1 news.1);
+      (news.0, all_both (IsOf table) first second mids.1 news.1);
 }
 
 -- nothing goes by the second step
@@ -87,7 +63,7 @@ swaps_still old mid new going one other = record {
 swaps_come : (ones rest : List Numbered) → Swaps rest (ones ++ rest) ones []
 swaps_come ones rest = record {
   uses = λ number. omega (arith, times-append number ones rest);
-  each = λ table all comes. (both (IsOf table) ones rest comes all, tt);
+  each = λ table all comes. (all_both (IsOf table) ones rest comes all, tt);
 }
 
 -- ---- one row

@@ -1,3 +1,4 @@
 mod Equal
 mod KeptSteps
 pub mod Uses
+pub mod References

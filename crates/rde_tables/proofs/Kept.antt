@@ -2,62 +2,25 @@
 use Rattle.std.proofs.Common.{◌≡◌, ℕ, ◌+◌, ◌<◌, ◌≤◌, ◌==◌, cond, List, [], ◌∷◌, ◌++◌, length, Some, refl, sym, ap, ◌∙◌, arith, subst}
 use Rattle.std.specs.List.{AllByRecursion}
 use Rattle.std.specs.Prelude.{Result, Ok, Err, IfOk, OnOk, OnErr}
-use Rattle.std.proofs.lemmas.List.Sums.{sum_by-cons, sum_by-append}
 use Rattle.attr_model.specs.declared.attrs.Attrs.{Attrs}
 use Rattle.attr_model.specs.Numbered.{Numbered}
 use Rattle.attr_intern.specs.Table.{Table, attrs_at, uses_at, times, IsOf, CameFrom, Hands, TakesBack}
-use Rattle.attr_intern.proofs.Uses.{times_itself}
+use Rattle.attr_intern.proofs.References.{times-cons, times-append, all_front, all_back, all_both, still_of, came_front, came_back, Stays as IsKept}
 use Rattle.adj_rib_in.specs.Uses.{Swaps}
 use Rattle.decision.specs.declared.candidate.Candidate.{Candidate}
 use Rattle.rib_multi.specs.Uses.{refs_in, Moves}
 use Rattle.adj_rib_out.specs.Uses.{Trades}
 use Rattle.rde_tables.specs.Uses.{Keeps, Stays, Accounts}
 
--- ---- counts
-
-pub times-cons : (number : ℕ) (one : Numbered) (rest : List Numbered) → times number (one ∷ rest) ≡ times number (one ∷ []) + times number rest
-times-cons number one rest =
-    let whole = sum_by-cons (λ (one : Numbered). cond (one.number == number) 1 0) one rest in
-    let alone = sum_by-cons (λ (one : Numbered). cond (one.number == number) 1 0) one [] in
-    omega arith
-
-pub times-append : (number : ℕ) (ones others : List Numbered) → times number (ones ++ others) ≡ times number ones + times number others
-times-append number ones others = sum_by-append (λ (one : Numbered). cond (one.number == number) 1 0) ones others
-
 pub times-none : (number : ℕ) → times number [] ≡ 0
 times-none number = refl
 
-module _ (P : Numbered → Type 0) where
-  pub front : (ones others : List Numbered) → AllByRecursion P (ones ++ others) → AllByRecursion P ones
-  front [] others all = tt
-  front (one ∷ rest) others all = (all.0, front rest others all.1)
-
-  pub back : (ones others : List Numbered) → AllByRecursion P (ones ++ others) → AllByRecursion P others
-  back [] others all = all
-  back (one ∷ rest) others all = back rest others all.1
-
-  pub both : (ones others : List Numbered) → AllByRecursion P ones → AllByRecursion P others → AllByRecursion P (ones ++ others)
-  both [] others first second = second
-  both (one ∷ rest) others first second = (first.0, both rest others first.1 second)
-
 -- ---- what came from a table
-
-pub came_front : (table : Table) (ones others : List Numbered) → CameFrom table (ones ++ others) → CameFrom table ones
-came_front table ones others came = record {
-  each = front (IsOf table) ones others came.each;
-  uses = λ number. omega (arith, came.uses number, times-append number ones others);
-}
-
-pub came_back : (table : Table) (ones others : List Numbered) → CameFrom table (ones ++ others) → CameFrom table others
-came_back table ones others came = record {
-  each = back (IsOf table) ones others came.each;
-  uses = λ number. omega (arith, came.uses number, times-append number ones others);
-}
 
 -- the same references in another order
 pub came_turned : (table : Table) (ones others : List Numbered) → CameFrom table (ones ++ others) → CameFrom table (others ++ ones)
 came_turned table ones others came = record {
-  each = both (IsOf table) others ones (back (IsOf table) ones others came.each) (front (IsOf table) ones others came.each);
+  each = all_both (IsOf table) others ones (all_back (IsOf table) ones others came.each) (all_front (IsOf table) ones others came.each);
   uses = λ number. omega (arith, came.uses number, times-append number ones others, times-append number others ones);
 }
 
@@ -65,23 +28,13 @@ came_turned table ones others came = record {
 pub came_as : (table : Table) (ones others rest : List Numbered) → ((number : ℕ) → times number others ≤ times number ones)
     → (AllByRecursion (IsOf table) ones → AllByRecursion (IsOf table) others) → CameFrom table (ones ++ rest) → CameFrom table (others ++ rest)
 came_as table ones others rest fewer each came = record {
-  each = both (IsOf table) others rest (each (front (IsOf table) ones rest came.each)) (back (IsOf table) ones rest came.each);
+  each = all_both (IsOf table) others rest (each (all_front (IsOf table) ones rest came.each)) (all_back (IsOf table) ones rest came.each);
   uses = λ number. omega (arith, fewer number, came.uses number, times-append number ones rest, times-append number others rest);
 }
 
--- what is still in use stands for what it did
-abbrev pub Stands : Table → Table → Type 0
-Stands old new = (number : ℕ) (attrs : Attrs) → attrs_at old number ≡ Some attrs → 0 < uses_at new number → attrs_at new number ≡ Some attrs
-
-pub still_of : (old new : Table) (ones : List Numbered) → Stands old new → ((number : ℕ) → times number ones ≤ uses_at new number) → AllByRecursion (IsOf old) ones → AllByRecursion (IsOf new) ones
-still_of old new [] stands enough of = tt
-still_of old new (one ∷ rest) stands enough of =
-    let used : 0 < uses_at new one.number = omega (arith, enough one.number, times-cons one.number one rest, times_itself one.number one refl) in
-    (stands one.number one.attrs of.0 used, still_of old new rest stands (λ number. omega (arith, enough number, times-cons number one rest)) of.1)
-
 -- ---- steps
 
-pub keeps_moved : (old new : Table) (before after : List Numbered) → Stands old new
+pub keeps_moved : (old new : Table) (before after : List Numbered) → IsKept old new
     → ((number : ℕ) → uses_at new number + times number before ≡ uses_at old number + times number after)
     → (CameFrom old before → AllByRecursion (IsOf new) after) → Keeps old new before after
 keeps_moved old new before after stands uses each = record {
@@ -89,7 +42,7 @@ keeps_moved old new before after stands uses each = record {
   came = λ rest came.
       let enough : (number : ℕ) → times number (after ++ rest) ≤ uses_at new number = λ number. omega (arith, uses number, came.uses number, times-append number before rest, times-append number after rest) in
       record {
-        each = both (IsOf new) after rest (each (came_front old before rest came)) (still_of old new rest stands (λ number. omega (arith, enough number, times-append number after rest)) (back (IsOf old) before rest came.each));
+        each = all_both (IsOf new) after rest (each (came_front old before rest came)) (still_of old new rest stands (λ number. omega (arith, enough number, times-append number after rest)) (all_back (IsOf old) before rest came.each));
         uses = enough;
       };
 }
@@ -124,7 +77,7 @@ keeps_same table before after same each = record {
 
 pub keeps_turned : (table : Table) (ones others : List Numbered) → Keeps table table (ones ++ others) (others ++ ones)
 keeps_turned table ones others = keeps_same table (ones ++ others) (others ++ ones) (λ number. omega (arith, times-append number ones others, times-append number others ones))
-    (λ all. both (IsOf table) others ones (back (IsOf table) ones others all) (front (IsOf table) ones others all))
+    (λ all. all_both (IsOf table) others ones (all_back (IsOf table) ones others all) (all_front (IsOf table) ones others all))
 
 -- a step behind references that it doesn't touch
 pub keeps_behind : (old new : Table) (before after others : List Numbered) → Keeps old new before after → Keeps old new (others ++ before) (others ++ after)
@@ -182,7 +135,7 @@ keeps_trades old new before after trades = keeps_moved old new before after (λ 
 -- held routes go
 pub swapped_out : (table : Table) (old new going : List Numbered) → Swaps old new [] going → Keeps table table old (going ++ new)
 swapped_out table old new going swaps = keeps_same table old (going ++ new) (λ number. omega (arith, swaps.uses number, times-append number going new, times-none number))
-    (λ all. let parts = swaps.each table all tt in both (IsOf table) going new parts.1 parts.0)
+    (λ all. let parts = swaps.each table all tt in all_both (IsOf table) going new parts.1 parts.0)
 
 pub keeps_out : (table after : Table) (old new going : List Numbered) → Swaps old new [] going → Keeps table after going [] → Keeps table after old new
 keeps_out table after old new going swaps given =
@@ -199,7 +152,7 @@ held_anew table mid after one like old new going hands swaps given =
     counts number = omega (arith, swaps.uses number, times-cons number like (one ∷ old), times-cons number one old, times-append number going (one ∷ new), times-cons number one new)
 
     each : AllByRecursion (IsOf mid) (like ∷ (one ∷ old)) → AllByRecursion (IsOf mid) (going ++ (one ∷ new))
-    each all = let parts = swaps.each mid all.1.1 (all.0, tt) in both (IsOf mid) going (one ∷ new) parts.1 (all.1.0, parts.0)
+    each all = let parts = swaps.each mid all.1.1 (all.0, tt) in all_both (IsOf mid) going (one ∷ new) parts.1 (all.1.0, parts.0)
 
 pub held_not : (table mid after : Table) (one like given : Numbered) (old new : List Numbered) → Hands table mid (like ∷ []) → Swaps old new [] [] → given ≡ like → TakesBack mid after (given ∷ [])
     → Keeps table after (one ∷ old) (one ∷ new)

@@ -10,7 +10,7 @@ use Rattle.net_base.specs.declared.prefix.Prefix.{Prefix}
 use Rattle.attr_model.specs.Numbered.{Numbered}
 use Rattle.attr_intern.specs.Table.{Table, Hands}
 use Rattle.decision.specs.declared.candidate.Candidate.{Candidate}
-use Rattle.rde_view.proofs.Uses.{hands_both}
+use Rattle.attr_intern.proofs.References.{hands_both}
 use Rattle.route_world.specs.declared.world.Session.{Session}
 use Rattle.route_world.specs.Import.{import_at}
 use Rattle.rde_view.specs.declared.live.Live.{Live}

@@ -1,5 +1,4 @@
 mod Held
 mod Answers
 mod Verdicts
-mod Uses
 mod EachSession

@@ -58,7 +58,7 @@ fn push_if(found: &mut CandidateList, one: Option<Candidate>) -> Result<(), NoMe
 }
 
 /// The network of a prefix as a list of at most one candidate.
-#[tactic(auto, using(crate::proofs::Uses::hands_none))]
+#[tactic(auto, using(attr_intern::proofs::References::hands_none))]
 fn network_of(
     alloc: Global,
     view: &View,

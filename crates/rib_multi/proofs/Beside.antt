@@ -16,7 +16,8 @@ use Rattle.rib_multi.specs.declared.change.Change.{Change}
 use Rattle.rib_multi.proofs.Chosen.{chosen_of}
 use Rattle.rib_multi.specs.Rows.{Kept, best_at, row_at, is_marked_at, RibState, Ribs, IsEmptyRib, empty_rib, rib_at, kept_at, candidates_of, row_in}
 use Rattle.rib_multi.specs.Uses.{refs_in, refs_of, refs_of_rib, refs_of_row, refs_of_one, refs_of_change, Moves}
-use Rattle.rib_multi.proofs.Moved.{moves_beside, moves_gone, came_on, times-append, all_front, all_back, all_both}
+use Rattle.attr_intern.proofs.References.{times-append, all_front, all_back, all_both}
+use Rattle.rib_multi.proofs.Moved.{moves_beside, moves_gone, came_on}
 use Rattle.rib_multi.proofs.Replaced.{times-flat_map, each_kept, times_kept}
 
 -- ---- references

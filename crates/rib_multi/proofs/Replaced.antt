@@ -20,7 +20,7 @@ use Rattle.attr_intern.specs.Table.{times}
 use Rattle.decision.specs.declared.candidate.Candidate.{Candidate}
 use Rattle.rib_multi.specs.Rows.{Kept, RibState, candidates_of, is_same, row_for, row_in, SetsRow}
 use Rattle.rib_multi.specs.Uses.{refs_in, refs_of_row, refs_of_rib}
-use Rattle.rib_multi.proofs.Moved.{times-append, all_front, all_back, all_both}
+use Rattle.attr_intern.proofs.References.{times-append, all_front, all_back, all_both}
 
 abbrev pub ByPrefix : Type 0
 ByPrefix = Prefix → Prefix → Ordering

@@ -2,7 +2,8 @@ use Rattle.std.proofs.Common.{◌≡◌, [], ◌∷◌, ◌++◌, List, length, 
 use Rattle.decision.specs.declared.candidate.Candidate.{Candidate}
 use Rattle.rib_multi.specs.Uses.{refs_in}
 use Rattle.rde_tables.specs.Uses.{Keeps}
-use Rattle.rde_tables.proofs.Kept.{came_back, keeps_pushed, refs_pushed, length_pushed}
+use Rattle.attr_intern.proofs.References.{came_back}
+use Rattle.rde_tables.proofs.Kept.{keeps_pushed, refs_pushed, length_pushed}
 use Rattle.rde_tables.proofs.keeping.numbered.Goals as goal
 
 pub returns-in_err-candidate-clause-stays : goal.returns-in_err-candidate-clause-stays

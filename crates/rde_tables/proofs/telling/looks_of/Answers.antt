@@ -4,7 +4,8 @@ use Rattle.adj_rib_out.specs.Rows.{one_or_none}
 use Rattle.adj_rib_out.specs.Looks.{wanted_in}
 use Rattle.rde_tables.specs.Uses.{Keeps}
 use Rattle.rde_tables.specs.Wants.{bare, look_of}
-use Rattle.rde_tables.proofs.Kept.{came_back, keeps_more}
+use Rattle.attr_intern.proofs.References.{came_back}
+use Rattle.rde_tables.proofs.Kept.{keeps_more}
 use Rattle.rde_tables.proofs.Wanted.{wanted_pushed, bare_pushed}
 use Rattle.rde_tables.proofs.telling.looks_of.Goals as goal
 

@@ -8,7 +8,8 @@ use Rattle.attr_intern.specs.Table.{CameFrom}
 use Rattle.decision.specs.declared.candidate.Candidate.{Candidate}
 use Rattle.rib_multi.specs.Rows.{Kept}
 use Rattle.rib_multi.specs.Uses.{refs_in, refs_of_row, Moves}
-use Rattle.rib_multi.proofs.Moved.{came_front, came_behind, moves_front}
+use Rattle.attr_intern.proofs.References.{came_front}
+use Rattle.rib_multi.proofs.Moved.{came_behind, moves_front}
 use Rattle.rib_multi.proofs.rib.give_rows.Goals as goal
 
 first_is : (c : goal.After-give_all) → flat_map refs_of_row (values_of c.loop-row.rows.entries) ≡ refs_in c.into_candidates.result ++ flat_map refs_of_row (values_of c.pop_first.new.self.entries)

@@ -3,7 +3,8 @@ use Rattle.adj_rib_in.specs.Uses.{kept as held_refs}
 use Rattle.rib_multi.specs.Uses.{refs_of}
 use Rattle.adj_rib_out.specs.Out.{kept as told_refs}
 use Rattle.rde_tables.specs.Routes.{IsExact}
-use Rattle.rde_tables.proofs.Kept.{came_front, came_back, keeps_handed, keeps_beside, keeps_announced, of_front, exact_on}
+use Rattle.attr_intern.proofs.References.{came_front, came_back}
+use Rattle.rde_tables.proofs.Kept.{keeps_handed, keeps_beside, keeps_announced, of_front, exact_on}
 use Rattle.rde_tables.proofs.routes.Routes.announce.Goals as goal
 
 pub hold_all-requires : goal.hold_all-requires

@@ -9,7 +9,8 @@ use Rattle.adj_rib_out.specs.Message.{IsInOrder, FitsAlone}
 use Rattle.rde_tables.specs.Routes.{AllRoutes, IsExact}
 use Rattle.rde_tables.specs.Wants.{look_of}
 use Rattle.rde_tables.proofs.Wanted.{all_queued, in_order, all_fit}
-use Rattle.rde_tables.proofs.Kept.{came_back, came_turned, keeps_came, keeps_beside, keeps_turned, keeps_last, keeps_then, keeps_trades, keeps_answered, exact_on, on_ok}
+use Rattle.attr_intern.proofs.References.{came_back}
+use Rattle.rde_tables.proofs.Kept.{came_turned, keeps_came, keeps_beside, keeps_turned, keeps_last, keeps_then, keeps_trades, keeps_answered, exact_on, on_ok}
 use Rattle.rde_tables.proofs.routes.Routes.build.Goals as goal
 
 pub build-requires-clause-queued : goal.build-requires-clause-queued

@@ -3,7 +3,8 @@ use Rattle.adj_rib_in.specs.Uses.{kept as held_refs, refs_of_routes}
 use Rattle.rib_multi.specs.Uses.{refs_of}
 use Rattle.adj_rib_out.specs.Out.{kept as told_refs}
 use Rattle.rde_tables.specs.Routes.{AllRoutes, IsExact}
-use Rattle.rde_tables.proofs.Kept.{came_front, came_back, keeps_came, keeps_out, keeps_beside, keeps_last, keeps_then, keeps_trades, swapped_out, exact_on, on_ok}
+use Rattle.attr_intern.proofs.References.{came_front, came_back}
+use Rattle.rde_tables.proofs.Kept.{keeps_came, keeps_out, keeps_beside, keeps_last, keeps_then, keeps_trades, swapped_out, exact_on, on_ok}
 use Rattle.rde_tables.proofs.routes.Routes.end.Goals as goal
 
 pub give_routes-requires : goal.give_routes-requires

@@ -5,7 +5,8 @@ use Rattle.rib_multi.specs.Rows.{Ribs}
 use Rattle.rib_multi.specs.Uses.{refs_of, refs_in, refs_of_change}
 use Rattle.adj_rib_out.specs.Out.{kept as told_refs}
 use Rattle.rde_tables.specs.Routes.{IsExact}
-use Rattle.rde_tables.proofs.Kept.{came_back, came_middle, came_turned, keeps_came, keeps_middle, keeps_moved, keeps_refreshed, exact_on}
+use Rattle.attr_intern.proofs.References.{came_back}
+use Rattle.rde_tables.proofs.Kept.{came_middle, came_turned, keeps_came, keeps_middle, keeps_moved, keeps_refreshed, exact_on}
 use Rattle.rde_tables.proofs.routes.Routes.refresh.Goals as goal
 
 pub refresh-requires-clause-came : goal.refresh-requires-clause-came

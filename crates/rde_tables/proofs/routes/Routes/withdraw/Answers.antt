@@ -3,7 +3,8 @@ use Rattle.adj_rib_in.specs.Uses.{kept as held_refs, refs_of_route}
 use Rattle.rib_multi.specs.Uses.{refs_of}
 use Rattle.adj_rib_out.specs.Out.{kept as told_refs}
 use Rattle.rde_tables.specs.Routes.{IsExact}
-use Rattle.rde_tables.proofs.Kept.{came_front, keeps_came, keeps_beside, keeps_out, swapped_out, exact_on}
+use Rattle.attr_intern.proofs.References.{came_front}
+use Rattle.rde_tables.proofs.Kept.{keeps_came, keeps_beside, keeps_out, swapped_out, exact_on}
 use Rattle.rde_tables.proofs.routes.Routes.withdraw.Goals as goal
 
 pub give-requires : goal.give-requires

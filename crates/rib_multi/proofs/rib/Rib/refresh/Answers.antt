@@ -5,7 +5,8 @@ use Rattle.attr_intern.specs.Table.{CameFrom, IsOf}
 use Rattle.rib_multi.specs.Rows.{Kept, RibState, row_in, candidates_of}
 use Rattle.rib_multi.specs.Uses.{refs_in, refs_of_rib}
 use Rattle.rib_multi.proofs.Chosen.{best_is_of}
-use Rattle.rib_multi.proofs.Moved.{came_front, came_back, came_still}
+use Rattle.attr_intern.proofs.References.{came_front, came_back}
+use Rattle.rib_multi.proofs.Moved.{came_still}
 use Rattle.rib_multi.proofs.Replaced.{Replaces}
 use Rattle.rib_multi.proofs.rib.Rib.refresh.Goals as goal
 
