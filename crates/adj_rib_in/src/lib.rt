@@ -8,6 +8,3 @@ mod table;
 
 pub use row::Entry;
 pub use table::{AdjRibIn, DroppedList};
-
-#[cfg(test)]
-mod tests;

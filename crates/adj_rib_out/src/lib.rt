@@ -12,6 +12,3 @@ mod table;
 
 pub use look::{Built, Look, LookList};
 pub use table::AdjRibOut;
-
-#[cfg(test)]
-mod tests;

@@ -1,31 +1,31 @@
-pub mod Cutting
-pub mod Fields
-pub mod Firsts
-pub mod Faults
-pub mod Kept
-pub mod Lengths
+mod Cutting
+mod Fields
+mod Firsts
+mod Faults
+mod Kept
+mod Lengths
 pub mod Appends
-pub mod ItemsBack
+mod ItemsBack
 pub mod PrefixesBack
-pub mod Rows
-pub mod Gaps
-pub mod Gathered
-pub mod Ascended
-pub mod ValuesBack
-pub mod FieldBack
-pub mod Sending
+mod Rows
+mod Gaps
+mod Gathered
+mod Ascended
+mod ValuesBack
+mod FieldBack
+mod Sending
 pub mod FieldSays
 pub mod Shorts
-pub mod FieldSplits
+mod FieldSplits
 pub mod Bytes
 pub mod CutItems
-pub mod PathsRead
-pub mod Ascends
-pub mod Ordered
-pub mod ValuesRead
-pub mod UnknownRead
-pub mod PartialRead
+mod PathsRead
+mod Ascends
+mod Ordered
+mod ValuesRead
+mod UnknownRead
+mod PartialRead
 pub mod ReadValid
 pub mod Frames
-pub mod Noting
-pub mod Joined
+mod Noting
+mod Joined

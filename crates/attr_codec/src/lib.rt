@@ -41,6 +41,3 @@ pub use reading::read_attrs;
 pub use sizes::{announced_size, attrs_size, size};
 pub use update_fault::UpdateFault;
 pub use writing::write_attrs;
-
-#[cfg(test)]
-mod tests;

@@ -5,6 +5,3 @@ mod hashed;
 mod table;
 
 pub use table::AttrTable;
-
-#[cfg(test)]
-mod tests;

@@ -1,4 +1,4 @@
-pub mod Prepending
+mod Prepending
 pub mod PrependedValid
 pub mod LargeOrder
 pub mod SameAttrs

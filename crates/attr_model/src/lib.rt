@@ -14,6 +14,3 @@ pub use laws::equal_attributes_are_one;
 pub use path::{AsList, Path, Segment};
 pub use route_table::RouteTable;
 pub use row::{Flag, RouteList, RouteRow};
-
-#[cfg(test)]
-mod tests;

@@ -1,7 +1,7 @@
-pub mod Fields
-pub mod Offers
-pub mod Judging
-pub mod Bytes
-pub mod Cutting
-pub mod ReadBack
+mod Fields
+mod Offers
+mod Judging
+mod Bytes
+mod Cutting
+mod ReadBack
 pub mod Stream

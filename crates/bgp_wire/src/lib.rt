@@ -21,6 +21,3 @@ pub use refresh::read_refresh;
 pub use writing::{
     AS_TRANS, put_header, write_keepalive, write_notification, write_open, write_refresh,
 };
-
-#[cfg(test)]
-mod tests;

@@ -15,6 +15,3 @@ mod run;
 mod values;
 
 pub use reading::{TEXT_LIMIT, tokens};
-
-#[cfg(test)]
-mod tests;

@@ -12,6 +12,3 @@ mod whole;
 mod words;
 
 pub use whole::print;
-
-#[cfg(test)]
-mod tests;

@@ -8,6 +8,3 @@ mod sets;
 mod tables;
 
 pub use sets::Sets;
-
-#[cfg(test)]
-mod tests;

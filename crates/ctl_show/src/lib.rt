@@ -7,6 +7,3 @@ mod rows;
 
 pub use read::{CtlFault, read_ctl};
 pub use rows::show;
-
-#[cfg(test)]
-mod tests;

@@ -1,5 +1,5 @@
-use attr_model::AttrRef;
-use net_base::Addr;
+use attr_model::{AttrRef, Attrs};
+use net_base::{Addr, Items};
 
 /// Where a route came from.
 #[derive(Clone, Copy, Debug, PartialEq, Eq, Hash)]
@@ -27,3 +27,21 @@ pub struct Candidate {
     /// The own AS number, which stands for the neighbour AS where the path is empty.
     pub own_as: u32,
 }
+
+/// A candidate of a prefix whose attributes have no number yet.
+#[derive(Drop)]
+pub struct Found {
+    /// Where it came from.
+    pub from: Origin,
+    /// Its attributes behind import.
+    pub attrs: Attrs,
+    /// Whether it may be chosen.
+    pub eligible: bool,
+    /// The BGP identifier of its neighbour, or the own router-id for a network.
+    pub bgp_id: u32,
+    /// The own AS number.
+    pub own_as: u32,
+}
+
+/// The candidates of one prefix in their order.
+pub type FoundList = Items<Found>;

@@ -8,9 +8,6 @@ mod meds;
 mod point;
 mod thinning;
 
-pub use candidate::{Candidate, Origin};
+pub use candidate::{Candidate, Found, FoundList, Origin};
 pub use choice::{MOST_CANDIDATES, best};
 pub use laws::{best_goes_by_members, best_is_a_member};
-
-#[cfg(test)]
-mod tests;

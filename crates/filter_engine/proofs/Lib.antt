@@ -1,7 +1,6 @@
 mod LastNumber
 mod FrontNumbers
 mod BySets
-mod EmptySet
 mod Placed
 mod PartialBits
 pub mod ItemsValid

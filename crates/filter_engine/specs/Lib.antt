@@ -4,7 +4,6 @@ pub mod Named
 pub mod Verdict
 pub mod Wanted
 pub mod Progress
-pub mod EmptySets
 pub mod IsFor
 pub mod Asked
 pub mod Skips

@@ -24,6 +24,3 @@ pub use laws::{
 pub use skips::SkipTable;
 pub use steps::Steps;
 pub use verdict::{Hop, Verdict};
-
-#[cfg(test)]
-mod tests;

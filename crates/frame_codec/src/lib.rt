@@ -14,6 +14,3 @@ pub use kind::Kind;
 pub use laws::frames_read_back;
 pub use reading::read;
 pub use writing::write;
-
-#[cfg(test)]
-mod tests;

@@ -14,6 +14,3 @@ pub use link::Link;
 pub use raw::{ImsgFault, Raw};
 pub use reader::Reader;
 pub use writing::frame;
-
-#[cfg(test)]
-mod tests;

@@ -19,6 +19,3 @@ pub use net::{EventList, MemoryNet, NetCall, NetEvent, NetFault, NetRecord, Peer
 pub use port::{CtlPort, MemoryPort};
 pub use sink::{MemorySink, Sink, WriterSink};
 pub use source::{MemorySource, ReaderSource, Source};
-
-#[cfg(test)]
-mod tests;

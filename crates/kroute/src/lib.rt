@@ -12,6 +12,3 @@ pub use kernel::{HopList, Kernel, TableMemory};
 pub use laws::{settled_tables_hold_what_is_wanted, tables_agree_with_the_kernel};
 pub use phase::{Coupling, Phase, Work};
 pub use tables::Tables;
-
-#[cfg(test)]
-mod tests;

@@ -1,2 +1,2 @@
-pub mod Slots
-pub mod Fronts
+mod Slots
+mod Fronts

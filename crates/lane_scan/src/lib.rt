@@ -11,6 +11,3 @@ pub use columns::{Columns, Slot};
 pub use covering::next_covering;
 pub use numbers::has_as;
 pub use ones::all_ones;
-
-#[cfg(test)]
-mod tests;

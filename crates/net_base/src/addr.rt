@@ -173,6 +173,3 @@ impl From<IpAddr> for Addr {
         }
     }
 }
-
-#[cfg(test)]
-mod tests;

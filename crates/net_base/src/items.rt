@@ -211,6 +211,3 @@ impl<T: Hash> Hash for Items<T> {
         self.entries.hash(state);
     }
 }
-
-#[cfg(test)]
-mod tests;

@@ -3,6 +3,7 @@
 
 mod addr;
 mod conf;
+mod core_fault;
 mod items;
 pub mod number;
 mod prefix;
@@ -14,6 +15,7 @@ mod way;
 
 pub use addr::{Addr, BadAddr, Family};
 pub use conf::{ConfError, ConfFault, ConfKind, Counted};
+pub use core_fault::CoreFault;
 pub use items::{Bytes, Items, PrefixList};
 pub use prefix::{BadPrefix, Prefix};
 pub use prefix_set::PrefixSet;

@@ -97,6 +97,3 @@ fn value_of(digits: &[u8]) -> Option<u64>
     }
     Some(value)
 }
-
-#[cfg(test)]
-mod tests;

@@ -157,6 +157,3 @@ fn without_low(bits: u128, count: u8) -> u128
         bits >> count << count
     }
 }
-
-#[cfg(test)]
-mod tests;

@@ -86,6 +86,13 @@ impl PrefixSet {
         Ok(Items::from_vec(prefixes))
     }
 
+    /// The prefixes as a set in order, to be gone over.
+    pub fn in_order(&self) -> &BTreeSet<Prefix>
+        ensures { result.now.keys ≡ self.now }
+    {
+        &self.prefixes
+    }
+
     /// Takes a prefix away, if it is there.
     pub fn remove(&mut self, prefix: Prefix)
         ensures prefixes { self.new ≡ remove_key (λ p. is_eq (prefix_cmp prefix p)) self.old }
@@ -102,6 +109,3 @@ impl PrefixSet {
         self.prefixes.clear();
     }
 }
-
-#[cfg(test)]
-mod tests;

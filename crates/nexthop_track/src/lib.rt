@@ -5,6 +5,3 @@ mod below;
 mod hops;
 
 pub use hops::{ChangeList, HopChange, NextHops};
-
-#[cfg(test)]
-mod tests;

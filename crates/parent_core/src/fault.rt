@@ -6,17 +6,6 @@ use net_base::{ConfError, ConfFault};
 use std::alloc::AllocError;
 use thiserror::Error;
 
-/// Why a call of a core gives nothing.
-#[derive(Clone, Copy, Debug, PartialEq, Eq, Error)]
-pub enum CoreFault {
-    /// Memory ran out in this call. The core is spent from now on.
-    #[error("out of memory")]
-    NoMemory,
-    /// Memory ran out in an earlier call.
-    #[error("the core is spent")]
-    Spent,
-}
-
 /// Why a reload isn't accepted. Nothing has changed.
 #[derive(Clone, Copy, Debug, PartialEq, Eq, Error)]
 pub enum ReloadRefusal {

@@ -8,7 +8,7 @@ mod parent;
 mod reloads;
 mod sending;
 
-pub use fault::{CoreFault, ReloadRefusal};
+pub use fault::ReloadRefusal;
 pub use laws::{
     both_cores_get_one_stage, bounds_stay, last_answers_hold, lost_tables_rest,
     settled_tables_hold_what_is_wanted,

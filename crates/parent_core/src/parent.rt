@@ -14,14 +14,14 @@ ghost use Rattle.parent_core.specs.History.{Accepted, Arranged, Follows, History
 ghost use Rattle.parent_core.specs.KernelTables.{Configures, switched_to};
 ghost use Rattle.parent_core.specs.Reloads.{idle, under_way};
 
-use crate::fault::{CoreFault, ReloadRefusal};
+use crate::fault::ReloadRefusal;
 use crate::kernel_tables::{configure, switch};
 use crate::reloads::{Reloads, Stage};
 use crate::sending::{answer, answers, copied, loss, nothing, only_frames, only_line, push_stage};
 use conf_tree::Conf;
 use core_msgs::{Core, Done, Frame, Line};
 use kroute::{Kernel, Tables};
-use net_base::{Addr, Items, NoMemory, Prefix};
+use net_base::{Addr, CoreFault, Items, NoMemory, Prefix};
 use nexthop_track::{HopChange, NextHops};
 use reload_stage::{StageList, TEXT_LIMIT, frames, read_conf};
 use std::alloc::Global;

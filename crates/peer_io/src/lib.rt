@@ -12,6 +12,3 @@ pub use laws::messages_through_an_inbox;
 pub use outbox::{Outbox, Sent, Waiting};
 pub use outgoing::Outgoing;
 pub use short::{Keepalive, Open, RouteRefresh};
-
-#[cfg(test)]
-mod tests;

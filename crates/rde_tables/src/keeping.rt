@@ -5,9 +5,9 @@ ghost use Rattle.attr_intern.specs.Table.{Hands};
 ghost use Rattle.rib_multi.specs.Uses.{refs_in};
 ghost use Rattle.rde_tables.specs.Uses.{Keeps, Stays};
 
-use crate::{Found, FoundList, Outcome};
+use crate::Outcome;
 use attr_intern::AttrTable;
-use decision::{Candidate, Origin};
+use decision::{Candidate, Found, FoundList, Origin};
 use net_base::{Addr, Items, NoMemory};
 use rib_multi::{CandidateList, Change};
 use std::alloc::Global;

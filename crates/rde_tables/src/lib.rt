@@ -8,5 +8,5 @@ mod outcome;
 mod routes;
 mod telling;
 
-pub use outcome::{Found, FoundList, Outcome, Told, Want, WantList};
+pub use outcome::{Outcome, Told, Want, WantList};
 pub use routes::Routes;

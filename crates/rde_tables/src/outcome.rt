@@ -1,24 +1,5 @@
 use attr_model::Attrs;
-use decision::Origin;
 use net_base::{Addr, Items, Prefix, PrefixList};
-
-/// A candidate of a prefix, whose attributes have no number yet.
-#[derive(Drop)]
-pub struct Found {
-    /// Where it came from.
-    pub from: Origin,
-    /// Its attributes behind import.
-    pub attrs: Attrs,
-    /// Whether it may be chosen.
-    pub eligible: bool,
-    /// The BGP identifier of its neighbour, or the own router-id for a network.
-    pub bgp_id: u32,
-    /// The own AS number.
-    pub own_as: u32,
-}
-
-/// The candidates of one prefix in their order.
-pub type FoundList = Items<Found>;
 
 /// What a refresh changed.
 #[derive(Clone, Copy, Debug, PartialEq, Eq)]

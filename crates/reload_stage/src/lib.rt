@@ -15,6 +15,3 @@ pub use item::{StageItem, StageList};
 pub use laws::stages_give_configurations;
 pub use reading::{STAGE_LIMIT, read_conf, read_draft};
 pub use staging::frames;
-
-#[cfg(test)]
-mod tests;

@@ -1,4 +1,4 @@
-mod Moved
+pub mod Moved
 mod Replaced
 mod Chosen
 mod Taken

@@ -10,6 +10,3 @@ mod shown;
 
 pub use change::{CandidateList, Change};
 pub use ribs::{MOST_RIBS, RibMulti};
-
-#[cfg(test)]
-mod tests;

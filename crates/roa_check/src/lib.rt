@@ -9,6 +9,3 @@ mod table;
 pub use index::CoverIndex;
 pub use slot::{same_family, slot_of};
 pub use table::{RoaTable, matches_route, ovs};
-
-#[cfg(test)]
-mod tests;

@@ -8,6 +8,3 @@ mod table;
 pub use event::{Actions, SessionEvent};
 pub use peer::{Peer, State};
 pub use table::step;
-
-#[cfg(test)]
-mod tests;

@@ -1,6 +1,6 @@
 mod Bytes
 mod ReadBack
-mod Plain
+pub mod Plain
 mod Stream
 mod ReadValid
 mod HeldEach

@@ -17,6 +17,3 @@ pub use out_update::OutUpdate;
 pub use reading::read_update;
 pub use update::{GroupList, Update};
 pub use writing::{fits, write_update};
-
-#[cfg(test)]
-mod tests;

@@ -6,6 +6,3 @@ mod pipe;
 
 pub use cursor::{Cursor, Short};
 pub use pipe::Pipe;
-
-#[cfg(test)]
-mod tests;

@@ -1,4 +1,0 @@
-use Rattle.filter_engine.proofs.tests.decide.Given as goal
-
-abbrev pub ghosts-decide_counted : goal.ghosts-decide_counted
-ghosts-decide_counted a = record { name = a.blank.name; parts = a.blank.parts }

@@ -1,8 +1,0 @@
-use Rattle.std.proofs.Common.{take}
-use Rattle.std.specs.List.{All}
-use Rattle.filter_engine.specs.EmptySets.{empty_sets}
-use Rattle.filter_engine.specs.Named.{IsNamed}
-use Rattle.filter_engine.proofs.tests.name_no_sets.Given as goal
-
-abbrev pub invariant-loop-condition : goal.invariant-loop-condition
-invariant-loop-condition l = All (IsNamed empty_sets) (take l.condition-index l.conditions)

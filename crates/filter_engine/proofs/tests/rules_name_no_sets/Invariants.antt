@@ -1,7 +1,0 @@
-use Rattle.std.proofs.Common.{take}
-use Rattle.filter_engine.specs.EmptySets.{empty_sets}
-use Rattle.filter_engine.specs.Named.{AreNamed}
-use Rattle.filter_engine.proofs.tests.rules_name_no_sets.Given as goal
-
-abbrev pub invariant-loop-rule : goal.invariant-loop-rule
-invariant-loop-rule l = AreNamed empty_sets (take l.rule-index l.rules)
