@@ -35,6 +35,18 @@ again_of (Some row) = row.again
 abbrev pub again_in : SentRows → Prefix → Bool
 again_in rows prefix = again_of (row_at rows prefix)
 
+-- ---- the prefixes of which it was told anything
+
+abbrev pub prefix_where : Prefix → Option Numbered → List Prefix
+prefix_where prefix None = []
+prefix_where prefix (Some one) = prefix ∷ []
+
+abbrev pub told_prefix : Prefix → Row → List Prefix
+told_prefix prefix row = prefix_where prefix row.told
+
+abbrev pub told_prefixes : SentRows → List Prefix
+told_prefixes rows = flat_map (λ entry. told_prefix entry.0 entry.1) rows
+
 -- ---- the references that are kept
 
 abbrev pub one_or_none : Option Numbered → List Numbered

@@ -1,15 +1,15 @@
-ghost use Rattle.std.specs.Prelude.{◌≡◌, ℕ, ◌+◌, true, false, [], cond, not, ◌&&◌, ◌||◌, option_copied, OnOk, OnErr, IsTrue};
+ghost use Rattle.std.specs.Prelude.{◌≡◌, ℕ, ◌+◌, true, false, [], ◌++◌, cond, not, ◌&&◌, ◌||◌, option_copied, IfOk, OnOk, OnErr, IsTrue};
 ghost use Rattle.std.specs.List.{AllByRecursion};
 ghost use Rattle.net_base.specs.declared.prefix.Prefix.{Prefix};
 ghost use Rattle.attr_intern.specs.Table.{Table, times, IsOf, CameFrom};
 ghost use Rattle.adj_rib_out.specs.Uses.{Moves};
-ghost use Rattle.adj_rib_out.specs.Rows.{is_same, has_row, told_in, again_in, kept_in, one_or_none};
+ghost use Rattle.adj_rib_out.specs.Rows.{is_same, has_row, told_in, again_in, kept_in, one_or_none, told_prefix, told_prefixes};
 ghost use Rattle.adj_rib_out.specs.Same.{same_number};
 
 use crate::give::give_back;
 use attr_intern::AttrTable;
 use attr_model::AttrRef;
-use net_base::{NoMemory, Prefix};
+use net_base::{Items, NoMemory, Prefix, PrefixList};
 use std::alloc::Global;
 use std::collections::BTreeMap;
 use std::marker::Model;
@@ -55,6 +55,17 @@ impl Rows {
             Some(row) => row.told.as_ref(),
             None => None,
         }
+    }
+
+    /// The prefixes of which the session was told anything, in order.
+    pub(crate) fn told_prefixes(&self, alloc: Global) -> Result<PrefixList, NoMemory>
+        ensures { IfOk result (λ prefixes. prefixes ≡ told_prefixes self.now) }
+    {
+        let mut prefixes = Items::new(alloc);
+        for (prefix, row) in self.rows.iter() {
+            push_told(&mut prefixes, *prefix, row)?;
+        }
+        Ok(prefixes)
     }
 
     /// Whether the prefix is to be told again.
@@ -160,6 +171,16 @@ impl Rows {
             None => true,
         }
     }
+}
+
+/// Puts a prefix behind others where its row was told anything.
+fn push_told(prefixes: &mut PrefixList, prefix: Prefix, row: &Row) -> Result<(), NoMemory>
+    ensures { OnOk result (prefixes.new ≡ prefixes.old ++ told_prefix prefix row.now) }
+{
+    if row.told.is_some() {
+        prefixes.push(prefix)?;
+    }
+    Ok(())
 }
 
 /// Whether two wanted values are the same: the same attributes, which in one table have the same number, or none.

@@ -6,7 +6,7 @@ ghost use Rattle.net_base.specs.Order.{prefix_cmp};
 ghost use Rattle.net_base.specs.PrefixSet.{IsLeast};
 ghost use Rattle.attr_intern.specs.Table.{Table, times, IsOf, CameFrom};
 ghost use Rattle.adj_rib_out.specs.Same.{same_number};
-ghost use Rattle.adj_rib_out.specs.Rows.{is_same, one_or_none};
+ghost use Rattle.adj_rib_out.specs.Rows.{is_same, one_or_none, told_prefixes};
 ghost use Rattle.adj_rib_out.specs.Out.{nothing, told_at, is_queued, is_again, kept_of};
 ghost use Rattle.adj_rib_out.specs.Uses.{Moves};
 ghost use Rattle.adj_rib_out.specs.Steps.{IsSame, Queues};
@@ -15,7 +15,7 @@ use crate::rows::Rows;
 use attr_intern::AttrTable;
 use attr_model::AttrRef;
 use circular_buffer::HeapCircularBuffer;
-use net_base::{NoMemory, Prefix, PrefixSet};
+use net_base::{NoMemory, Prefix, PrefixList, PrefixSet};
 use std::alloc::Global;
 use std::marker::Model;
 
@@ -59,6 +59,20 @@ impl SessionOut {
         ensures { option_copied result ≡ told_at self.now prefix }
     {
         self.rows.told(prefix)
+    }
+
+    /// The prefixes of which the session was told anything, in order.
+    pub(crate) fn told_prefixes(&self, alloc: Global) -> Result<PrefixList, NoMemory>
+        ensures { IfOk result (λ prefixes. prefixes ≡ told_prefixes self.now.rows) }
+    {
+        self.rows.told_prefixes(alloc)
+    }
+
+    /// The queued prefixes.
+    pub(crate) fn waiting(&self) -> &PrefixSet
+        ensures { result.now ≡ self.now.queue }
+    {
+        &self.queue
     }
 
     /// Whether the prefix is to be told again.

@@ -5,6 +5,7 @@ ghost use Rattle.net_base.specs.Order.{prefix_cmp};
 ghost use Rattle.net_base.specs.PrefixSet.{IsLeast};
 ghost use Rattle.attr_intern.specs.Table.{CameFrom};
 ghost use Rattle.adj_rib_out.specs.Out.{nothing, told_at, is_queued, is_again, out_at, kept};
+ghost use Rattle.adj_rib_out.specs.Rows.{told_prefixes};
 ghost use Rattle.adj_rib_out.specs.Message.{has_news, message_of, built_of, IsInOrder, FitsAlone};
 ghost use Rattle.adj_rib_out.specs.Uses.{Trades};
 ghost use Rattle.adj_rib_out.specs.Looks.{wanted_in, used_by};
@@ -18,7 +19,7 @@ use crate::session::SessionOut;
 use attr_intern::AttrTable;
 use attr_model::AttrRef;
 use bgp_wire::Encoding;
-use net_base::{NoMemory, Prefix};
+use net_base::{Items, NoMemory, Prefix, PrefixList, PrefixSet};
 use std::alloc::{AllocError, Global};
 use std::collections::BTreeMap;
 use std::marker::Model;
@@ -92,6 +93,26 @@ impl AdjRibOut {
     {
         match self.of(session) {
             Some(out) => out.told(prefix),
+            None => None,
+        }
+    }
+
+    /// The prefixes of which a session was told anything, in order.
+    pub fn told_to(&self, session: u32) -> Result<PrefixList, NoMemory>
+        ensures { IfOk result (λ prefixes. prefixes ≡ told_prefixes (out_at self.now session).rows) }
+    {
+        match self.of(session) {
+            Some(out) => out.told_prefixes(self.alloc),
+            None => Ok(Items::new(self.alloc)),
+        }
+    }
+
+    /// The prefixes that are queued for a session, or None where it has nothing.
+    pub fn waiting(&self, session: u32) -> Option<&PrefixSet>
+        ensures { MatchOption result (out_at self.now session ≡ nothing) (λ queue. queue.now ≡ (out_at self.now session).queue) }
+    {
+        match self.of(session) {
+            Some(out) => Some(out.waiting()),
             None => None,
         }
     }
