@@ -2,3 +2,4 @@ mod Held
 mod Answers
 mod Verdicts
 mod EachSession
+mod Alone

@@ -7,7 +7,7 @@ mod importing;
 mod live;
 mod view;
 
-pub use exporting::wanted;
+pub use exporting::want;
 pub use importing::candidates;
 pub use live::Live;
 pub use view::View;

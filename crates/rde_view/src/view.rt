@@ -1,36 +1,39 @@
-ghost use Rattle.std.specs.Prelude.{◌≡◌, ◌==◌, ◌≤◌, length, find, Option, option_copied, IfOk, IfErr, OnOk, OnErr, []};
-ghost use Rattle.std.specs.List.Sorted.{IsStrictlySortedBy};
-ghost use Rattle.std.specs.Map.{keys_of};
-ghost use Rattle.net_base.specs.Order.{prefix_cmp};
+ghost use Rattle.std.specs.Prelude.{◌≡◌, ◌==◌, ◌≤◌, ◌<◌, ℕ, Bool, true, false, length, find, Option, None, option_copied, IfOk, IfErr, OnOk, OnErr, IfNone, IfSome, IsTrue, []};
+ghost use Rattle.std.specs.BTreeMap.{insert_entry, is_at};
+ghost use Rattle.std.specs.Map.{remove_entry};
+ghost use Rattle.net_base.specs.Order.{addr_cmp};
 ghost use Rattle.conf_tree.specs.Empty.{empty_conf};
-ghost use Rattle.adj_rib_in.specs.Held.{held_at, route_at, IsSame, SetsRow};
-ghost use Rattle.adj_rib_in.specs.Row.{attrs_of, put, without};
+ghost use Rattle.conf_tree.specs.Readable.{IsReadable, IsWithinLimits};
+ghost use Rattle.conf_tree.specs.Settled.{IsSettled};
 ghost use Rattle.route_world.specs.World.{neighbour_at, is_valid, is_yes};
 ghost use Rattle.route_world.specs.Import.{network_at};
-ghost use Rattle.rde_view.specs.View.{live_at, world_of};
+ghost use Rattle.rde_view.specs.View.{live_at, rib_at, world_of};
 
 use crate::Live;
-use adj_rib_in::{AdjRibIn, Entry};
-use attr_model::AttrRef;
 use conf_sets::Sets;
 use conf_tree::{Conf, Neighbour, Network};
-use filter_engine::SkipTable;
+use filter_engine::{SkipTable, settled_rules_name_sets};
 use net_base::{Addr, NoMemory, Prefix};
+use rib_multi::MOST_RIBS;
 use std::alloc::Global;
 use std::collections::BTreeMap;
 use std::marker::Model;
 
-/// What the decision core was told: its configuration with its generation, the sessions that are up with the routes that they
-/// hold, and the next hops that it asked for with their answers. Beside the configuration stands what is built of it, so that its
-/// rules are asked quickly.
+/// The most sessions that are up at once.
+const MOST_SESSIONS: usize = 256;
+
+/// What the decision core was told: its configuration with its generation, the sessions that are up, and the next hops that it asked
+/// for with their answers. Beside the configuration stands what is built of it, so that its rules are asked quickly, and beside the
+/// sessions where each number is.
 #[derive(Drop)]
 pub struct View {
+    alloc: Global,
     pub(crate) conf: Conf,
     generation: u32,
     pub(crate) sets: Sets,
     pub(crate) skips: SkipTable,
     pub(crate) sessions: BTreeMap<Addr, Live>,
-    pub(crate) held: AdjRibIn,
+    peers: BTreeMap<u32, Addr>,
     answers: BTreeMap<Addr, Option<bool>>,
 }
 
@@ -47,7 +50,6 @@ impl Model for View {
       conf = v.conf;
       generation = v.generation;
       sessions = v.sessions.entries;
-      held = v.held;
       answers = v.answers.entries;
     } };
 
@@ -57,19 +59,19 @@ impl Model for View {
 impl View {
     /// The empty configuration of generation 0, without sessions and next hops.
     pub fn new(alloc: Global) -> Result<View, NoMemory>
-        ensures { IfOk result (λ view. view ≡ record { conf = empty_conf; generation = 0; sessions = []; held = []; answers = [] }) }
+        ensures { IfOk result (λ view. view ≡ record { conf = empty_conf; generation = 0; sessions = []; answers = [] }) }
     {
         let conf = Conf::empty(alloc);
         let sets = Sets::build(alloc, &conf)?;
         let skips = SkipTable::build(alloc, &conf.rules)?;
-        let held = AdjRibIn::new(alloc)?;
         Ok(View {
+            alloc,
             conf,
             generation: 0,
             sets,
             skips,
             sessions: BTreeMap::new(alloc),
-            held,
+            peers: BTreeMap::new(alloc),
             answers: BTreeMap::new(alloc),
         })
     }
@@ -88,9 +90,10 @@ impl View {
         self.generation
     }
 
-    /// The sessions that are up, by address.
+    /// The sessions that are up, by address, at most 256.
     pub fn sessions(&self) -> &BTreeMap<Addr, Live>
-        ensures { result.now.entries ≡ self.now.sessions }
+        ensures sessions { result.now.entries ≡ self.now.sessions }
+        ensures few { length self.now.sessions ≤ 256 }
     {
         &self.sessions
     }
@@ -102,12 +105,17 @@ impl View {
         self.sessions.get(&peer).copied()
     }
 
-    /// The session of a number. At most 256 are up.
-    pub fn numbered(&self, number: u32) -> Option<Live> {
-        self.sessions
-            .values()
-            .find(|live| live.number == number)
-            .copied()
+    /// The session of a number.
+    pub fn numbered(&self, number: u32) -> Option<Live>
+        ensures { IfSome result (λ live. live.number ≡ number) }
+    {
+        let peer = self.peers.get(&number)?;
+        let live = self.session(*peer)?;
+        if live.number == number {
+            Some(live)
+        } else {
+            None
+        }
     }
 
     /// The neighbour of an address, by the configuration.
@@ -130,17 +138,35 @@ impl View {
             .find(|network| network.prefix == prefix)
     }
 
-    /// The route to a prefix that the session of a number holds.
-    pub fn held(&self, number: u32, prefix: Prefix) -> Option<&AttrRef>
-        ensures route { option_copied result ≡ route_at self.now.held prefix number }
-        ensures by_prefix { IsStrictlySortedBy prefix_cmp (keys_of self.now.held) }
+    /// How many RIBs there are, Loc-RIB among them, at most 16.
+    pub fn ribs(&self) -> u8
+        ensures { result ≤ 16 }
     {
-        route_in(self.held.of(prefix), number)
+        self.conf.ribs.len().min(15) as u8 + 1
+    }
+
+    /// The RIB of a neighbour: 0, which is Loc-RIB, where the configuration lacks it.
+    pub fn rib_of(&self, peer: Addr) -> u8
+        ensures { result ≡ rib_at self.now.conf peer }
+    {
+        match self.neighbour(peer) {
+            Some(neighbour) => neighbour.rib,
+            None => 0,
+        }
+    }
+
+    /// The kernel table of a RIB, if it has one.
+    pub fn table_of(&self, rib: u8) -> Option<u32> {
+        if rib == 0 {
+            return Some(0);
+        }
+        let rib = self.conf.ribs.get(usize::from(rib) - 1)?;
+        Some(u32::from(rib.table?))
     }
 
     /// Whether an address is valid as a next hop, by the answers so far.
     pub fn is_valid(&self, addr: Addr) -> bool
-        ensures { result ≡ is_valid (world_of self.now) addr }
+        ensures { result ≡ is_valid (world_of self.now []) addr }
     {
         let _ascending = self.answers.len();
         match self.answers.get(&addr) {
@@ -148,33 +174,95 @@ impl View {
             None => false,
         }
     }
+
+    /// The next hops that were asked for, by address, each with its answer.
+    pub fn answers(&self) -> &BTreeMap<Addr, Option<bool>>
+        ensures { result.now.entries ≡ self.now.answers }
+    {
+        &self.answers
+    }
 }
 
 impl View {
-    /// A session announces a route in the place of the one that it had for the prefix, whose reference comes back. Where memory is
-    /// refused, what is held stays, and `attrs` comes back.
-    pub fn announce(
-        &mut self,
-        number: u32,
-        prefix: Prefix,
-        attrs: AttrRef,
-    ) -> Result<Option<AttrRef>, AttrRef>
-        ensures row { OnOk result (SetsRow self.old.held self.new.held prefix (put (record { session = number; attrs = attrs }) (held_at self.old.held prefix))) }
-        ensures old { IfOk result (λ old. old ≡ route_at self.old.held prefix number) }
-        ensures same { OnErr result (IsSame self.old.held self.new.held) }
-        ensures back { IfErr result (λ one. one ≡ attrs) }
-        ensures rest { self.new ≡ record self.old { held = self.new.held } }
+    /// A configuration holds from now on. Where memory is refused, nothing changes.
+    pub fn set_conf(&mut self, generation: u32, conf: Conf) -> Result<(), NoMemory>
+        requires settled { IsSettled conf }
+        requires readable { IsReadable conf }
+        requires within { IsWithinLimits conf }
+        ensures ok { OnOk result (self.new ≡ record self.old { conf = conf; generation = generation }) }
+        ensures err { OnErr result (self.new ≡ self.old) }
     {
-        self.held.set(prefix, number, attrs)
+        settled_rules_name_sets();
+        let sets = Sets::build(self.alloc, &conf)?;
+        let skips = SkipTable::build(self.alloc, &conf.rules)?;
+        self.conf = conf;
+        self.generation = generation;
+        self.sets = sets;
+        self.skips = skips;
+        Ok(())
     }
 
-    /// A session withdraws its route to a prefix, whose reference comes back.
-    pub fn withdraw(&mut self, number: u32, prefix: Prefix) -> Option<AttrRef>
-        ensures row { SetsRow self.old.held self.new.held prefix (without number (held_at self.old.held prefix)) }
-        ensures value { result ≡ route_at self.old.held prefix number }
-        ensures rest { self.new ≡ record self.old { held = self.new.held } }
+    /// A session comes up. The answer is whether it did: it doesn't where its number or its neighbour has a session, or 256 are up.
+    /// Where memory is refused, no session comes up.
+    #[tactic(auto, using(net_base::proofs::Order::derived_addr_cmp))]
+    pub fn up(&mut self, live: Live) -> Result<bool, NoMemory>
+        ensures up { IfOk result (λ up. up ≡ true → self.new.sessions ≡ insert_entry addr_cmp self.old.sessions live.peer live) }
+        ensures refused { IfOk result (λ up. up ≡ false → self.new ≡ self.old) }
+        ensures full { IfOk result (λ up. up ≡ true → length self.old.sessions < 256) }
+        ensures others { self.new ≡ record self.old { sessions = self.new.sessions } }
     {
-        self.held.unset(prefix, number)
+        if !self.has_room(live) {
+            return Ok(false);
+        }
+        self.peers.insert(live.number, live.peer)?;
+        self.sessions.insert(live.peer, live)?;
+        Ok(true)
+    }
+
+    /// Whether a session can come up.
+    fn has_room(&self, live: Live) -> bool
+        ensures { IsTrue result → length self.now.sessions < 256 }
+    {
+        self.sessions.len() < MOST_SESSIONS
+            && !self.sessions.contains_key(&live.peer)
+            && !self.peers.contains_key(&live.number)
+    }
+
+    /// The session of a number goes, and is the answer where it was up.
+    pub fn down(&mut self, number: u32) -> Option<Live>
+        ensures others { self.new ≡ record self.old { sessions = self.new.sessions } }
+    {
+        let live = self.numbered(number)?;
+        self.peers.remove(&number);
+        self.sessions.remove(&live.peer)
+    }
+
+    /// A next hop is asked for, and has no answer yet. Where memory is refused, nothing changes.
+    #[tactic(auto, using(net_base::proofs::Order::derived_addr_cmp))]
+    pub fn track(&mut self, hop: Addr) -> Result<(), NoMemory>
+        ensures ok { OnOk result (self.new.answers ≡ insert_entry addr_cmp self.old.answers hop None) }
+        ensures others { self.new ≡ record self.old { answers = self.new.answers } }
+        ensures err { OnErr result (self.new ≡ self.old) }
+    {
+        self.answers.insert(hop, None)?;
+        Ok(())
+    }
+
+    /// A next hop is asked for no longer.
+    pub fn untrack(&mut self, hop: Addr)
+        ensures gone { self.new.answers ≡ remove_entry (is_at (addr_cmp hop)) self.old.answers }
+        ensures others { self.new ≡ record self.old { answers = self.new.answers } }
+    {
+        self.answers.remove(&hop);
+    }
+
+    /// An answer for a next hop, which is passed over where that isn't asked for.
+    pub fn answer(&mut self, hop: Addr, valid: bool)
+        ensures others { self.new ≡ record self.old { answers = self.new.answers } }
+    {
+        if let Some(answer) = self.answers.get_mut(&hop) {
+            *answer = Some(valid);
+        }
     }
 }
 
@@ -186,21 +274,4 @@ fn is_yes(answer: Option<bool>) -> bool
         Some(valid) => valid,
         None => false,
     }
-}
-
-/// The route of a session among those to one prefix.
-#[tactic(auto, using(crate::proofs::Held::attrs_found))]
-fn route_in(entries: &[Entry], number: u32) -> Option<&AttrRef>
-    ensures { option_copied result ≡ attrs_of number entries.now }
-{
-    match entry_of(entries, number) {
-        Some(entry) => Some(&entry.attrs),
-        None => None,
-    }
-}
-
-fn entry_of(entries: &[Entry], number: u32) -> Option<&Entry>
-    ensures { option_copied result ≡ find (λ entry. entry.session == number) entries.now }
-{
-    entries.iter().find(|entry| entry.session == number)
 }
