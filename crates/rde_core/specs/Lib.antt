@@ -1,0 +1,4 @@
+pub mod State
+pub mod Units
+pub mod Ready
+pub mod Staged
