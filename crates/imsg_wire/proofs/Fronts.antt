@@ -150,6 +150,11 @@ front_of-written raw rest fits =
       rest = after;
     })
 
+-- a frame has a header of 16 bytes and its payload
+pub frame_size : (raw : Raw) → length (frame_bytes raw) ≡ 16 + length raw.payload
+unfolding frame_bytes
+frame_size raw = omega arith
+
 -- nothing stands at the front of no bytes
 pub front_of-nil : front_of [] ≡ More
 unfolding front_of

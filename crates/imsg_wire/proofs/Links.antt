@@ -1,6 +1,6 @@
 -- The frames that a link holds.
-use Rattle.std.proofs.Common.{◌≡◌, ◌∙◌, ℕ, ◌+◌, ◌<◌, ◌≤◌, Bool, true, false, arith, length, List, [], ◌∷◌, ◌++◌, take, drop, Option, Some, None, Ok, Err, Result, refl, ap, sym, append_assoc, append-nil}
-use Rattle.std.specs.Prelude.{flat_map, nat_lt}
+use Rattle.std.proofs.Common.{rules, ◌≡◌, ◌∙◌, ℕ, ◌+◌, ◌<◌, ◌≤◌, Bool, true, false, arith, length, List, [], ◌∷◌, ◌++◌, take, drop, Option, Some, None, Ok, Err, Result, refl, ap, sym, append_assoc, append-nil}
+use Rattle.std.specs.Prelude.{flat_map, nat_lt, IfOk, IfSome}
 use Rattle.std.proofs.lemmas.Bool.Decides.{nat_tests}
 use Rattle.std.proofs.Math.Seq.{take-append_seam, take-append-add}
 use Rattle.byteorder.specs.Endian.{little_number}
@@ -15,7 +15,7 @@ use Rattle.imsg_wire.specs.declared.raw.ImsgFault.{ImsgFault}
 use Rattle.imsg_wire.specs.declared.raw.ImsgFault.TheVariants as faults
 use Rattle.imsg_wire.specs.Frame.{frame_bytes, IsFrame, More, Whole, Bad, front_of, Takes}
 use Rattle.imsg_wire.specs.Holding.{Holds, GivesFirst, size_in, missing_of}
-use Rattle.imsg_wire.proofs.Fronts.{front_of-append_whole, front_of-append_bad, front_of-written, front_of-nil}
+use Rattle.imsg_wire.proofs.Fronts.{front_of-append_whole, front_of-append_bad, front_of-written, front_of-nil, front_of-shorter}
 
 -- a frame that is appended is the last
 pub holds_appended : (old new : Link) (raws : List Raw) (raw : Raw) → Holds old raws → IsFrame raw →
@@ -91,6 +91,12 @@ gives_first old new raws (Ok (Some raw)) t c h = some_given old new raw raws t c
 gives_first old new raws (Ok None) t c h = (same_link new old t.1 c, λ e. none_left old raws t.0 h e)
 gives_first old new raws (Err (faults.BadLength size)) t c h = none_bad old raws size t.0 h
 gives_first old new raws (Err faults.NoMemory) t c h = same_link new old t.1 c
+
+-- what is given leaves fewer bytes
+pub given_shorter : (old new : List ℕ) (result : Result (Option Raw) ImsgFault) → Takes old new result → IfOk result (λ given. IfSome given (λ _. length new < length old))
+given_shorter old new (Ok (Some raw)) t = let s = front_of-shorter old raw new t in omega arith
+given_shorter old new (Ok None) t = search rules
+given_shorter old new (Err fault) t = search rules
 
 -- the header of a frame that was written says its length
 size_written : (raw : Raw) (rest : List ℕ) → IsFrame raw → size_in (frame_bytes raw ++ rest) ≡ length (frame_bytes raw)

@@ -1,4 +1,4 @@
-ghost use Rattle.std.specs.Prelude.{◌≡◌, ℕ, List, [], ◌∷◌, ◌++◌, ◌≤◌, ◌↔◌, ◌==◌, ◌&&◌, length, take, drop, get_or, OnOk, OnErr};
+ghost use Rattle.std.specs.Prelude.{◌≡◌, ℕ, List, [], ◌∷◌, ◌++◌, ◌<◌, ◌≤◌, ◌↔◌, ◌==◌, ◌&&◌, length, take, drop, get_or, IfOk, IfSome, OnOk, OnErr};
 ghost use Rattle.imsg_wire.specs.Holding.{size_in};
 
 use crate::{ImsgFault, Raw, Reader, frame};
@@ -82,6 +82,7 @@ impl Link {
         ensures takes { Takes self.old.reader self.new.reader result }
         ensures coming { self.new.coming ≡ self.old.coming }
         ensures none { (result ≡ Ok None) ↔ (front_of self.old.reader ≡ More) }
+        ensures shorter { IfOk result (λ given. IfSome given (λ _. length self.new.reader < length self.old.reader)) }
         // Of a link to which frames alone were written, the first is given, and no length is bad.
         ensures holds { (raws : List Raw) → Holds self.old raws → GivesFirst self.old self.new raws result }
     {
