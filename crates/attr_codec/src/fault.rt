@@ -23,8 +23,8 @@ pub(crate) fn fault_of(enc: Encoding, is_copy: bool, attribute: Attribute<'_>) -
     }
 }
 
-/// Whether a type of attribute has a meaning here.
-pub(crate) fn is_known_kind(kind: u8) -> bool
+/// Whether attributes of a type have a meaning here. All others are unknown.
+pub fn is_known_kind(kind: u8) -> bool
     ensures { result ≡ is_known kind }
 {
     matches!(kind, 1..=8 | 14 | 15 | 17 | 18 | 32)

@@ -29,6 +29,7 @@ mod update_fault;
 mod values;
 mod writing;
 
+pub use fault::is_known_kind;
 pub use frame::{frame_attrs_size, read_frame_attrs, write_frame_attrs};
 pub use laws::{
     attributes_read_back, attributes_split, frame_attributes_read_back, joined_paths_keep_length,

@@ -6,3 +6,5 @@ mod Routes
 mod Payloads
 mod Texts
 mod Taken
+mod Ascending
+mod Unknown

@@ -288,6 +288,24 @@ AreParts (frames.CtlWords text) = is_utf8 text ≡ true
 AreParts (frames.CtlText text) = is_utf8 text ≡ true
 AreParts (frames.CtlEnd status) = IsNumber 1 status
 
+-- What a test has to see of attributes: the rest of `IsCarried` holds of each value of their type.
+pub record AreWritable (attrs : Attrs) : Type 0 where
+  pub valid : IsValid attrs
+  pub short : length (frame_attrs_bytes attrs) ≤ 65535
+
+abbrev pub IsWritableAnnounced : Family → Option (Attrs × List Prefix) → Type 0
+IsWritableAnnounced family None = Unit {0}
+IsWritableAnnounced family (Some one) = (AreWritable one.0 × (one.0.hop.family ≡ family)) × ArePrefixes family one.1
+
+-- What a test has to see of a frame's parts: each number is within its type.
+abbrev pub AreWritableParts : Frame → Type 0
+AreWritableParts (frames.Piece bytes) = is_piece bytes ≡ true
+AreWritableParts (frames.Routes session family withdrawn announced) = ArePrefixes family withdrawn × IsWritableAnnounced family announced
+AreWritableParts (frames.Credit session messages) = 1 ≤ messages
+AreWritableParts (frames.CtlWords text) = is_utf8 text ≡ true
+AreWritableParts (frames.CtlText text) = is_utf8 text ≡ true
+AreWritableParts frame = Unit {0}
+
 -- A frame that can be written.
 pub record Fits (frame : Frame) : Type 0 where
   pub parts : AreParts frame

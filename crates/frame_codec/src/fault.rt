@@ -5,10 +5,11 @@ use std::alloc::AllocError;
 use thiserror::Error;
 use wire_buf::Short;
 
-/// Why no frame was read.
+/// Why no frame was read or written.
 #[derive(Clone, Copy, Debug, PartialEq, Eq, Error)]
 pub enum FrameFault {
-    /// The payload isn't what is written for some frame of its kind, or there is no such kind.
+    /// Of what is read, the payload isn't what is written for some frame of its kind, or there is no such kind. Of what is
+    /// written, a part of the frame isn't what a payload can hold, or the payload has more bytes than one can.
     #[error("a bad frame")]
     BadFrame,
     /// An allocation was refused.

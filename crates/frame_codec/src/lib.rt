@@ -2,11 +2,13 @@
 #![tactic(auto)]
 
 mod fault;
+mod fitting;
 mod kind;
 mod laws;
 mod put;
 mod reading;
 mod take;
+mod valid;
 mod writing;
 
 pub use fault::FrameFault;

@@ -5,7 +5,7 @@ ghost use Rattle.attr_codec.specs.Frame.{frame_attrs_bytes};
 ghost use Rattle.attr_model.specs.Valid.{IsValid};
 ghost use Rattle.frame_codec.specs.Fields.{addr_bytes, family_byte, prefixes_bytes, truth_byte};
 ghost use Rattle.frame_codec.specs.Grammar as bits;
-ghost use Rattle.frame_codec.specs.Grammar.{agreed_bytes, agreed_bits, announced_bytes, attrs_bytes, placed_bytes};
+ghost use Rattle.frame_codec.specs.Grammar.{IsCarried, agreed_bytes, agreed_bits, attrs_bytes, placed_bytes};
 
 use attr_codec::{frame_attrs_size, write_frame_attrs, write_prefixes};
 use attr_model::Attrs;
@@ -88,7 +88,8 @@ fn bit_if(is_there: bool, bit: u8) -> u8
 pub(crate) fn put_attrs(attrs: &Attrs, out: &mut Pipe) -> Result<(), NoMemory>
     requires valid { IsValid attrs.now }
     requires short { length (frame_attrs_bytes attrs.now) ≤ 65535 }
-    ensures { OnOk result (out.new ≡ out.old ++ attrs_bytes attrs.now) }
+    ensures ok { OnOk result (out.new ≡ out.old ++ attrs_bytes attrs.now) }
+    ensures carried { OnOk result (IsCarried attrs.now) }
 {
     out.put_u32(attrs.weight)?;
     put_addr(attrs.hop, out)?;

@@ -4,6 +4,7 @@ ghost use Rattle.frame_codec.specs.declared.kind.Kind.TheVariants as kinds;
 ghost use Rattle.frame_codec.specs.Fields.{ReadsField};
 ghost use Rattle.frame_codec.specs.Grammar.{Fits, announced_at, field_of, frame_of, is_piece, rest_if, routes_at};
 
+use crate::fitting::{is_part, is_text};
 use crate::take::{
     take_addr, take_agreed, take_attrs, take_family, take_placed, take_prefixes, take_rest,
     take_some, take_truth, take_u64,
@@ -16,9 +17,6 @@ use net_base::{Bytes, Family, PrefixList};
 use std::alloc::Global;
 use std::str;
 use wire_buf::Cursor;
-
-/// How many bytes the longest part of a text has.
-const LONGEST_PIECE: usize = 16000;
 
 /// Reads a frame, which fits. `BadFrame` comes exactly where the payload isn't what is written for some frame of its kind.
 pub fn read(alloc: Global, raw: &Raw) -> Result<Frame, FrameFault>
@@ -188,7 +186,7 @@ fn read_piece(alloc: Global, left: &mut Cursor<'_>) -> Result<Bytes, FrameFault>
     ensures { ReadsField (rest_if is_piece) left.old left.new result }
 {
     let bytes = take_rest(left);
-    if bytes.is_empty() || bytes.len() > LONGEST_PIECE {
+    if !is_part(bytes) {
         return Err(FrameFault::BadFrame);
     }
     Ok(Bytes::from_slice(alloc, bytes)?)
@@ -203,16 +201,6 @@ fn read_text(alloc: Global, left: &mut Cursor<'_>) -> Result<Bytes, FrameFault>
         return Err(FrameFault::BadFrame);
     }
     Ok(Bytes::from_slice(alloc, bytes)?)
-}
-
-#[tactic(auto, using(crate::proofs::Texts::utf8_yes, crate::proofs::Texts::utf8_no))]
-fn is_text(bytes: &[u8]) -> bool
-    ensures { result ≡ is_utf8 bytes.now }
-{
-    match str::from_utf8(bytes) {
-        Ok(_) => true,
-        Err(_) => false,
-    }
 }
 
 #[tactic(auto, unfolding(crate::specs::Grammar::routes_at))]

@@ -2,36 +2,50 @@ ghost use Rattle.std.specs.Prelude.{◌≡◌, ◌++◌, OnOk, OnErr, Some};
 ghost use Rattle.byteorder.specs.Endian.{big_bytes};
 ghost use Rattle.core_msgs.specs.declared.frame.Frame.TheVariants as frames;
 ghost use Rattle.imsg_wire.specs.Frame.{IsFrame, frame_bytes};
-ghost use Rattle.frame_codec.specs.Grammar.{AreParts, Fits, IsAnnounced, announced_bytes, frame_of, kind_of, number_of, payload_of, raw_of, session_of};
+ghost use Rattle.frame_codec.specs.Grammar.{AreParts, AreWritableParts, Fits, IsAnnounced, IsWritableAnnounced, announced_bytes, frame_of, kind_of, number_of, payload_of, raw_of, session_of};
 
-use crate::Kind;
+use crate::fitting::are_parts;
 use crate::put::{
     put_addr, put_agreed, put_attrs, put_family, put_placed, put_prefixes, put_truth,
 };
+use crate::{FrameFault, Kind};
 use attr_model::Attrs;
 use core_msgs::Frame;
+use imsg_wire::LONGEST_PAYLOAD;
 use net_base::{Family, NoMemory, PrefixList};
 use std::alloc::Global;
 use wire_buf::Pipe;
 
-/// Writes a frame behind what `out` holds. `pid` says who writes it. Where memory is refused, `out` holds what it held.
-pub fn write(alloc: Global, frame: &Frame, pid: u32, out: &mut Pipe) -> Result<(), NoMemory>
-    requires { Fits frame.now }
+/// Writes a frame behind what `out` holds. `pid` says who writes it. Where it fails, `out` holds what it held. `BadFrame` comes
+/// exactly where the frame doesn't fit, unless memory is refused first. A frame doesn't fit where it has one of these:
+///
+/// - a payload of more bytes than a frame holds,
+/// - a list of prefixes with one of another family, or with more than 65535,
+/// - attributes that aren't valid, that have more than 65535 bytes, or whose hop is of another family,
+/// - a part of a text with no byte, or with more than 16000,
+/// - a text that isn't UTF-8,
+/// - a credit of no message.
+pub fn write(alloc: Global, frame: &Frame, pid: u32, out: &mut Pipe) -> Result<(), FrameFault>
     ensures ok { OnOk result (out.new ≡ out.old ++ frame_bytes (raw_of frame.now pid)) }
+    ensures fits { OnOk result (Fits frame.now) }
+    ensures bad { result ≡ Err FrameFault.BadFrame → Fits frame.now → ⊥ }
     ensures err { OnErr result (out.new ≡ out.old) }
     // What is written is a frame, and is read as this one.
     ensures whole { OnOk result (IsFrame (raw_of frame.now pid)) }
-    ensures reads_back { frame_of (number_of (kind_of frame.now)) (session_of frame.now) (payload_of frame.now) ≡ Some frame.now }
+    ensures reads_back { OnOk result (
+        frame_of (number_of (kind_of frame.now)) (session_of frame.now) (payload_of frame.now) ≡ Some frame.now) }
 {
+    if !are_parts(frame) {
+        return Err(FrameFault::BadFrame);
+    }
     let mut payload = Pipe::new(alloc);
     put_payload(frame, &mut payload)?;
-    imsg_wire::frame(
-        kind(frame).number(),
-        session(frame),
-        pid,
-        payload.peek(),
-        out,
-    )
+    if payload.len() > LONGEST_PAYLOAD {
+        return Err(FrameFault::BadFrame);
+    }
+    let number = kind(frame).number();
+    imsg_wire::frame(number, session(frame), pid, payload.peek(), out)?;
+    Ok(())
 }
 
 // The kind of a frame.
@@ -90,8 +104,9 @@ fn session(frame: &Frame) -> u32
 
 // Puts what stands behind the header.
 fn put_payload(frame: &Frame, out: &mut Pipe) -> Result<(), NoMemory>
-    requires { AreParts frame.now }
-    ensures { OnOk result (out.new ≡ out.old ++ payload_of frame.now) }
+    requires { AreWritableParts frame.now }
+    ensures ok { OnOk result (out.new ≡ out.old ++ payload_of frame.now) }
+    ensures parts { OnOk result (AreParts frame.now) }
 {
     match frame {
         Frame::Begin { generation, length } => put_two(*generation, *length, out),
@@ -187,8 +202,9 @@ fn put_announced(
     announced: &Option<(Attrs, PrefixList)>,
     out: &mut Pipe,
 ) -> Result<(), NoMemory>
-    requires { IsAnnounced family announced.now }
-    ensures { OnOk result (out.new ≡ out.old ++ announced_bytes announced.now) }
+    requires { IsWritableAnnounced family announced.now }
+    ensures ok { OnOk result (out.new ≡ out.old ++ announced_bytes announced.now) }
+    ensures parts { OnOk result (IsAnnounced family announced.now) }
 {
     match announced {
         None => Ok(()),

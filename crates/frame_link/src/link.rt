@@ -55,10 +55,10 @@ impl FrameLink {
         self.link.is_empty()
     }
 
-    /// Writes a frame at the end. Where memory is refused, the link is as it was.
-    pub fn push(&mut self, frame: &Frame) -> Result<(), NoMemory>
-        requires { Fits frame.now }
+    /// Writes a frame at the end. `BadFrame` comes exactly where it doesn't fit, unless memory is refused first. Where it fails, the link is as it was.
+    pub fn push(&mut self, frame: &Frame) -> Result<(), FrameFault>
         ensures carries { OnOk result ((fs : List Frame) → Carries self.old fs → Carries self.new (fs ++ frame.now ∷ [])) }
+        ensures bad { result ≡ Err FrameFault.BadFrame → Fits frame.now → ⊥ }
         ensures reader { self.new.reader ≡ self.old.reader }
         ensures err { OnErr result (self.new ≡ self.old) }
     {
@@ -81,6 +81,7 @@ impl FrameLink {
         ensures gives { (fs : List Frame) → Carries self.old fs → GivesFirst self.old self.new fs result }
         ensures front { TakesFront self.old.reader self.new.reader result }
         ensures shorter { IfOk result (λ given. IfSome given (λ _. length self.new.reader < length self.old.reader)) }
+        ensures fits { IfOk result (λ given. IfSome given Fits) }
     {
         let given = self.link.next();
         frame_given(self.alloc, given)
@@ -88,7 +89,8 @@ impl FrameLink {
 
     /// Moves the bytes that complete the next frame, and gives it. None comes exactly where the link carries no frame.
     pub fn take(&mut self) -> Result<Option<Frame>, NoMemory>
-        ensures { (fs : List Frame) → Carries self.old fs → IsPartial self.old → CompletesFirst self.old self.new fs result }
+        ensures completes { (fs : List Frame) → Carries self.old fs → IsPartial self.old → CompletesFirst self.old self.new fs result }
+        ensures fits { IfOk result (λ given. IfSome given Fits) }
     {
         frames_split();
         let missing = self.link.missing();
@@ -102,7 +104,8 @@ fn frame_given(
     alloc: Global,
     given: Result<Option<Raw>, ImsgFault>,
 ) -> Result<Option<Frame>, NoMemory>
-    ensures { ReadsGiven given result }
+    ensures reads { ReadsGiven given result }
+    ensures fits { IfOk result (λ given. IfSome given Fits) }
 {
     match given {
         Ok(Some(raw)) => frame_of(alloc, &raw),
@@ -114,7 +117,8 @@ fn frame_given(
 
 /// The frame of these bytes. Frames alone are written, so that each reads as one.
 fn frame_of(alloc: Global, raw: &Raw) -> Result<Option<Frame>, NoMemory>
-    ensures { (frame : Frame) (writer : ℕ) → Fits frame → raw_of frame writer ≡ raw.now → IfOk result (λ given. given ≡ Some frame) }
+    ensures reads { (frame : Frame) (writer : ℕ) → Fits frame → raw_of frame writer ≡ raw.now → IfOk result (λ given. given ≡ Some frame) }
+    ensures fits { IfOk result (λ given. IfSome given Fits) }
 {
     frames_read_back();
     match read(alloc, raw) {

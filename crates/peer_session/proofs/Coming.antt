@@ -26,7 +26,8 @@ use Rattle.peer_session.specs.declared.neighbour.Reason.TheVariants as reasons
 use Rattle.peer_session.specs.declared.neighbour.Settings.{Settings}
 use Rattle.peer_session.specs.declared.hearing.Heard.{Heard}
 use Rattle.peer_session.specs.declared.hearing.Heard.TheVariants as says
-use Rattle.peer_session.specs.Calls.{comes_back_where, configures, credit_frame, credit_frames, ends_for_rules, goes_down, is_passed_over, number_of, routes_by, routes_to, with_settings, writes}
+use Rattle.update_codec.specs.declared.out_update.OutUpdate.{OutUpdate}
+use Rattle.peer_session.specs.Calls.{comes_back_where, configures, credit_frame, credit_frames, ends_for_rules, goes_down, can_write, number_of, routes_by, routes_to, update_of, with_settings, writes}
 use Rattle.peer_session.specs.Frames.{family_frames, group_frames, groups_in, prefixes_in, update_frames, ups}
 use Rattle.peer_session.specs.Neighbour.{Course, Neighbour, is_connected, is_established, sends_where, tells}
 use Rattle.peer_session.specs.Steps.{Handles, comes_up_by, down_frames, ends_where, goes, handles, handles_front, heard_front, hears_open, is_agreed, is_there, keeps_alive, passes, refresh_frames, sends_by, stops, takes, takes_by, tells_refresh, tells_update, up_frame}
@@ -71,17 +72,16 @@ credits_quiet (Some session) updates = go (updates == 0)
 pub routes_quiet : (withdrawn : List Prefix) (announced : Option (Attrs × List Prefix)) (c : Course) → ups (routes_to withdrawn announced c).frames ≡ ups c.frames
 routes_quiet withdrawn announced c = go (is_established c.neighbour)
   where
-    passed : (group : Attrs × List Prefix) (facts : OpenFacts) (b : Bool) → is_passed_over facts.encoding group.0 ≡ b → ups (routes_by (Some facts) withdrawn (Some group) c).frames ≡ ups c.frames
-    passed group facts true e = rw e (quiet_more c.frames (credit_frame c.neighbour.number 1 ∷ []) refl)
-    passed group facts false e = rw e refl
+    written : (update : OutUpdate) (facts : OpenFacts) (b : Bool) → can_write facts.encoding update ≡ b → ups (routes_by (Some facts) update c).frames ≡ ups c.frames
+    written update facts true e = rw e refl
+    written update facts false e = rw e (quiet_more c.frames (credit_frame c.neighbour.number 1 ∷ []) refl)
 
-    by : (facts : Option OpenFacts) (announced : Option (Attrs × List Prefix)) → ups (routes_by facts withdrawn announced c).frames ≡ ups c.frames
-    by None announced = refl
-    by (Some facts) None = refl
-    by (Some facts) (Some group) = passed group facts (is_passed_over facts.encoding group.0) refl
+    by : (facts : Option OpenFacts) (update : OutUpdate) → ups (routes_by facts update c).frames ≡ ups c.frames
+    by None update = refl
+    by (Some facts) update = written update facts (can_write facts.encoding update) refl
 
-    go : (b : Bool) → ups (cond b (routes_by c.neighbour.facts withdrawn announced c) c).frames ≡ ups c.frames
-    go true = by c.neighbour.facts announced
+    go : (b : Bool) → ups (cond b (routes_by c.neighbour.facts (update_of withdrawn announced) c) c).frames ≡ ups c.frames
+    go true = by c.neighbour.facts (update_of withdrawn announced)
     go false = refl
 
 pub configures_quiet : (changed : Bool) (settings : Settings) (now : ℕ) (c : Course) → ups (configures changed settings now c).frames ≡ ups c.frames

@@ -1,4 +1,5 @@
 pub mod Coming
 mod Fronts
+pub mod Lines
 mod Shrinks
 mod Takes

@@ -1,19 +1,24 @@
 -- The calls on a neighbour: when they are refused, and what they do otherwise.
-use Rattle.std.specs.Prelude.{◌≡◌, ℕ, ◌+◌, ◌-◌, ◌^◌, min, Bool, true, false, not, ◌&&◌, ◌==◌, if◌then◌else◌, List, [], ◌∷◌, ◌++◌, take, Option, Some, None, is_some, Result, Err, IfErr}
+use Rattle.std.specs.Prelude.{◌≡◌, ℕ, ◌+◌, ◌-◌, ◌^◌, min, nat_le, Bool, true, false, not, ◌&&◌, ◌==◌, if◌then◌else◌, List, [], ◌∷◌, ◌++◌, length, take, Option, Some, None, is_some, Result, Err, IfErr}
 use Rattle.net_base.specs.declared.addr.Addr.{Addr}
+use Rattle.net_base.specs.declared.addr.Family.{Family}
 use Rattle.net_base.specs.declared.addr.Family.TheVariants.{V4, V6}
 use Rattle.net_base.specs.declared.prefix.Prefix.{Prefix}
 use Rattle.attr_model.specs.declared.attrs.Attrs.{Attrs}
+use Rattle.attr_model.specs.Valid.{IsValid}
 use Rattle.session_fsm.specs.declared.event.SessionEvent.TheVariants as events
 use Rattle.session_fsm.specs.declared.peer.State.{State}
 use Rattle.session_fsm.specs.declared.peer.State.TheVariants as states
 use Rattle.session_fsm.specs.Table.{is_up}
 use Rattle.bgp_wire.specs.declared.open.Encoding.{Encoding}
 use Rattle.bgp_wire.specs.declared.open.OpenFacts.{OpenFacts}
+use Rattle.bgp_wire.specs.Message.{message_bytes}
 use Rattle.bgp_wire.specs.Written.{refresh_of}
+use Rattle.std.specs.List.{AllByRecursion}
+use Rattle.attr_codec.specs.Prefixes.{IsOf}
 use Rattle.update_codec.specs.declared.out_update.OutUpdate.{OutUpdate}
 use Rattle.update_codec.specs.declared.out_update.OutUpdate.TheVariants.{Announce, Withdraw}
-use Rattle.update_codec.specs.Written.{Fits, IsWritable, update_message}
+use Rattle.update_codec.specs.Written.{family_of, is_agreed, update_message}
 use Rattle.peer_io.specs.Queue.{behind, ended, nothing_waits, taken}
 use Rattle.core_msgs.specs.declared.answer.Line.{Line}
 use Rattle.core_msgs.specs.declared.answer.Line.TheVariants as reported
@@ -141,34 +146,46 @@ writes most c =
       frames = c.frames ++ credit_frames (number_of n) (ended (n.outbox.begun + size) n.outbox.waiting);
     }
 
--- Routes that announce with LOCAL_PREF to an external peer, or without it to an internal one, are passed over.
-abbrev pub is_passed_over : Encoding → Attrs → Bool
-is_passed_over encoding attrs = if encoding.external then is_some attrs.local_pref else not (is_some attrs.local_pref)
+-- routes for a peer as one UPDATE
+abbrev pub update_of : List Prefix → Option (Attrs × List Prefix) → OutUpdate
+update_of withdrawn None = Withdraw withdrawn
+update_of withdrawn (Some group) = Announce group.0 group.1
+
+-- at least one prefix, and the family was agreed
+abbrev pub may_name : Encoding → Family → List Prefix → Bool
+may_name encoding family [] = false
+may_name encoding family (first ∷ others) = is_agreed encoding family
+
+-- A weight is this speaker's own, and LOCAL_PREF is for internal peers.
+abbrev pub may_stand : Encoding → Attrs → Bool
+may_stand encoding attrs = (attrs.weight == 0) && (if encoding.external then not (is_some attrs.local_pref) else is_some attrs.local_pref)
+
+abbrev pub may_be_sent : Encoding → OutUpdate → Bool
+may_be_sent encoding (Withdraw prefixes) = may_name encoding (family_of prefixes) prefixes
+may_be_sent encoding (Announce attrs prefixes) = may_name encoding attrs.hop.family prefixes && may_stand encoding attrs
+
+-- whether an UPDATE can be written by what was agreed: it may be sent, and has at most 4096 bytes
+abbrev pub can_write : Encoding → OutUpdate → Bool
+can_write encoding update = may_be_sent encoding update && nat_le (length (message_bytes (update_message encoding update))) 4096
 
 abbrev pub sends_update : Encoding → OutUpdate → Course → Course
 sends_update encoding update c = record c { neighbour = sends_where true (update_message encoding update) c.neighbour }
 
-abbrev pub routes_by : Option OpenFacts → List Prefix → Option (Attrs × List Prefix) → Course → Course
-routes_by None withdrawn announced c = c
-routes_by (Some facts) withdrawn None c = sends_update facts.encoding (Withdraw withdrawn) c
-routes_by (Some facts) withdrawn (Some group) c =
-    if is_passed_over facts.encoding group.0 then tells (credit_frame c.neighbour.number 1 ∷ []) c
-    else sends_update facts.encoding (Announce group.0 group.1) c
+-- What can't be written is passed over, and the credit for it goes at once.
+abbrev pub routes_by : Option OpenFacts → OutUpdate → Course → Course
+routes_by None update c = c
+routes_by (Some facts) update c =
+    if can_write facts.encoding update then sends_update facts.encoding update c else tells (credit_frame c.neighbour.number 1 ∷ []) c
 
 -- Routes become one UPDATE of an established session.
 abbrev pub routes_to : List Prefix → Option (Attrs × List Prefix) → Course → Course
 routes_to withdrawn announced c =
-    if is_established c.neighbour then routes_by c.neighbour.facts withdrawn announced c else c
+    if is_established c.neighbour then routes_by c.neighbour.facts (update_of withdrawn announced) c else c
 
--- They can be written by what was agreed, where they aren't passed over.
-abbrev pub CanWrite : Encoding → OutUpdate → Type 0
-CanWrite encoding update = IsWritable encoding update × Fits encoding update
-
-abbrev pub CanRoute : Option OpenFacts → List Prefix → Option (Attrs × List Prefix) → Type 0
-CanRoute None withdrawn announced = Unit {0}
-CanRoute (Some facts) withdrawn None = CanWrite facts.encoding (Withdraw withdrawn)
-CanRoute (Some facts) withdrawn (Some group) =
-    is_passed_over facts.encoding group.0 ≡ false → CanWrite facts.encoding (Announce group.0 group.1)
+-- Valid attributes, and prefixes of the family of their next hop; or prefixes of one family.
+abbrev pub AreRoutes : List Prefix → Option (Attrs × List Prefix) → Type 0
+AreRoutes withdrawn None = AllByRecursion (IsOf (family_of withdrawn)) withdrawn
+AreRoutes withdrawn (Some group) = IsValid group.0 × AllByRecursion (IsOf group.0.hop.family) group.1
 
 -- whether the peer can be asked for its routes
 abbrev pub may_ask : State → Option OpenFacts → Bool

@@ -3,3 +3,4 @@ pub mod Frames
 pub mod Hearing
 pub mod Steps
 pub mod Calls
+pub mod Reported

@@ -6,6 +6,7 @@ mod neighbour;
 mod refusal;
 mod routes;
 mod update_message;
+mod writable;
 
 pub use neighbour::{NeighbourSession, Settings};
 pub use refusal::SessionRefusal;

@@ -9,12 +9,13 @@ ghost use Rattle.peer_session.specs.Neighbour.{Course, Does, course, is_connecte
 ghost use Rattle.peer_session.specs.Hearing.{heard_in};
 ghost use Rattle.peer_session.specs.Frames.{update_frames};
 ghost use Rattle.peer_session.specs.Steps.{Goes, Handles, agreed_of, comes_up_where, connect_lines, down_frames, down_lines, ends, ends_where, feeds, goes_on, handles, handles_front, is_agreed, is_there, keeps_alive, last_lines, refresh_frames, takes, tells_refresh, tells_update, up_frame};
-ghost use Rattle.peer_session.specs.Calls.{CanRoute, IsSame, Refuses, asks, clears, comes, comes_back, comes_back_where, configures, connection_refusal, credit_frame, credit_frames, ends_for_rules, exceeds, expires, fresh, goes_down, hold_of, is_passed_over, leaves, loses, loss_refusal_in, number_of, open_refusal_in, opens, refresh_refusal, routes_to, sent_lines, writes};
+ghost use Rattle.peer_session.specs.Calls.{AreRoutes, IsSame, Refuses, asks, clears, comes, comes_back, comes_back_where, configures, connection_refusal, credit_frame, credit_frames, ends_for_rules, exceeds, expires, fresh, goes_down, hold_of, leaves, loses, loss_refusal_in, number_of, open_refusal_in, opens, refresh_refusal, routes_to, sent_lines, writes};
 
 use crate::SessionRefusal;
 use crate::hearing::{Heard, hear};
 use crate::routes::push_routes;
 use crate::update_message::UpdateMessage;
+use crate::writable::can_write;
 use attr_model::Attrs;
 use bgp_wire::{Cut, Encoding, OpenFacts, OpenRules};
 use core_msgs::{Agreed, Core, Done, Frame, Line, LineList, SendList, SessionAction};
@@ -431,17 +432,18 @@ impl NeighbourSession {
         }
     }
 
-    /// Routes for the peer, as one UPDATE. Where they announce without LOCAL_PREF to an internal peer, or with it to an external
-    /// one, they are passed over, and the credit for them goes at once. Without an established session nothing is done.
+    /// Routes for the peer, as one UPDATE. What can't be written by what was agreed is passed over, and the credit for it goes at
+    /// once: routes with LOCAL_PREF for an external peer or without it for an internal one, with a weight, without a prefix or of a
+    /// family that wasn't agreed, and more than 4096 bytes. Without an established session nothing is done.
     ///
-    /// What isn't passed over is one UPDATE that can be written by what was agreed.
+    /// The attributes are valid, and the prefixes of the family of their next hop.
     pub fn routes(
         &mut self,
         withdrawn: PrefixList,
         announced: Option<(Attrs, PrefixList)>,
         done: &mut Done,
     ) -> Result<(), NoMemory>
-        requires { IsTrue (is_established self.old) → CanRoute self.old.facts withdrawn announced }
+        requires { AreRoutes withdrawn announced }
         ensures { OnOk result (Does (routes_to withdrawn announced) self.old self.new done.old done.new) }
     {
         let facts = match self.facts {
@@ -451,13 +453,11 @@ impl NeighbourSession {
         let encoding = facts.encoding;
         let update = match announced {
             None => OutUpdate::Withdraw(withdrawn),
-            Some((attrs, prefixes)) => {
-                if is_passed_over(encoding, &attrs) {
-                    return done.frames.push(credit_frame(self.number, 1));
-                }
-                OutUpdate::Announce(attrs, prefixes)
-            }
+            Some((attrs, prefixes)) => OutUpdate::Announce(attrs, prefixes),
         };
+        if !can_write(encoding, &update) {
+            return done.frames.push(credit_frame(self.number, 1));
+        }
         self.push_where(true, &UpdateMessage { encoding, update })
     }
 
@@ -848,17 +848,6 @@ fn may_refresh(encoding: Encoding, family: Family) -> bool
         Family::V6 => encoding.v6,
     };
     encoding.refresh && agreed
-}
-
-/// Whether attributes may not be sent: they have LOCAL_PREF for an external peer, or lack it for an internal one.
-fn is_passed_over(encoding: Encoding, attrs: &Attrs) -> bool
-    ensures { result ≡ is_passed_over encoding attrs.now }
-{
-    if encoding.external {
-        attrs.local_pref.is_some()
-    } else {
-        attrs.local_pref.is_none()
-    }
 }
 
 fn up_frame(session: u32, peer: Addr, facts: OpenFacts) -> (Core, Frame)

@@ -1,16 +1,16 @@
 //! A build: the next message of a session.
 
-ghost use Rattle.std.specs.Prelude.{◌≡◌, ◌<◌, length, map, IfOk};
+ghost use Rattle.std.specs.Prelude.{◌≡◌, map, IfOk};
 ghost use Rattle.std.specs.List.{AllByRecursion};
-ghost use Rattle.adj_rib_out.specs.Out.{out_at};
 ghost use Rattle.adj_rib_out.specs.Message.{FitsAlone};
 ghost use Rattle.rde_tables.specs.Wants.{look_of};
 ghost use Rattle.rde_view.specs.View.{facts_of};
+ghost use Rattle.rde_core.specs.Units.{HasRoom};
 
 use crate::sending::to_session;
 use crate::tables::Tables;
 use attr_model::Attrs;
-use core_msgs::{Done, Frame};
+use core_msgs::{Frame, SendList};
 use filter_engine::Steps;
 use net_base::{Family, Items, NoMemory, PrefixList};
 use rde_tables::{Told, WantList};
@@ -28,16 +28,16 @@ pub(crate) fn build<L: Ledger>(
     tables: &mut Tables,
     live: Live,
     steps: &mut Steps<L>,
-    done: &mut Done,
+    frames: &mut SendList,
 ) -> Result<(), NoMemory>
-    requires { length (out_at tables.old.routes.outs live.number).flight < 16 }
+    requires { HasRoom tables.old.routes live }
 {
     let rib = view.rib_of(live.peer);
     let ready = tables.ready(alloc, live.number, rib, LOOKS)?;
     let wants = wants(alloc, view, tables, &live, &ready, steps)?;
     let encoding = live.facts(view.conf().asn).encoding;
     let told = tables.routes.build(live.number, encoding, wants)?;
-    tell(alloc, view, tables, live.number, told, done)
+    tell(alloc, view, tables, live.number, told, frames)
 }
 
 /// A message that was built goes to the session core. What a withdrawal takes away may be known no longer.
@@ -47,16 +47,16 @@ fn tell(
     tables: &mut Tables,
     session: u32,
     told: Option<Told>,
-    done: &mut Done,
+    frames: &mut SendList,
 ) -> Result<(), NoMemory> {
     match told {
         None => Ok(()),
         Some(Told::Withdraw(prefixes)) => {
             tables.note_all(view, prefixes.as_slice())?;
-            to_session(done, withdrawal(session, prefixes))
+            to_session(frames, withdrawal(session, prefixes))
         }
         Some(Told::Announce(attrs, prefixes)) => {
-            to_session(done, announcement(alloc, session, attrs, prefixes))
+            to_session(frames, announcement(alloc, session, attrs, prefixes))
         }
     }
 }

@@ -1,20 +1,23 @@
-ghost use Rattle.std.specs.Prelude.{◌≡◌, ◌↔◌, false, [], OnOk, OnErr, IfOk, IfErr, IsErrOf, IsTrue};
+ghost use Rattle.std.specs.Prelude.{◌≡◌, ◌↔◌, true, false, [], OnOk, OnErr, Err, IfOk, IfErr, IsErrOf, IsOk, IsTrue};
+ghost use Rattle.std.specs.List.{list_all};
+ghost use Rattle.rde_core.specs.Given.{ReportsApplied, applied};
+ghost use Rattle.rde_core.specs.Rows.{is_row_of};
 ghost use Rattle.rde_core.specs.Units.{CanBeDone};
 ghost use Rattle.net_base.specs.declared.core_fault.CoreFault.TheVariants as CoreFault;
 ghost use Rattle.rde_tables.specs.Routes.{IsExact};
 
 use crate::building::build;
 use crate::refreshing::refresh;
-use crate::sending::nothing;
+use crate::sending::given;
 use crate::showing;
 use crate::staging::{committed, stage};
 use crate::swapping::follow_swap;
 use crate::tables::Tables;
 use crate::taking::{ask_again, credit, down, next_hop, routes, up};
 use crate::units::{LastUnits, Unit, next_unit};
-use core_msgs::{Done, Frame, RowList, Table};
+use core_msgs::{Done, Frame, RowList, SendList, Table};
 use filter_engine::Steps;
-use net_base::{Addr, CoreFault, NoMemory, Prefix};
+use net_base::{Addr, CoreFault, Items, NoMemory, Prefix};
 use rde_view::{Live, View};
 use reload_stage::{Assembly, StageItem};
 use std::alloc::Global;
@@ -85,6 +88,7 @@ impl Decision {
     /// Frames of sessions that aren't up, and every other frame, are passed over. The errors are `NoMemory`, behind which the core is
     /// spent, and `Spent`.
     pub fn frame(&mut self, frame: Frame) -> Result<Done, CoreFault>
+        ensures reports { IfOk result (λ done. ReportsApplied done.lines) }
         ensures live { OnOk result (self.new.spent ≡ false) }
         ensures spent { OnErr result (IsTrue self.new.spent) }
         ensures was_spent { IsErrOf result CoreFault.Spent ↔ IsTrue self.old.spent }
@@ -93,9 +97,9 @@ impl Decision {
         if self.spent {
             return Err(CoreFault::Spent);
         }
-        let mut done = nothing(self.alloc);
-        let outcome = self.take(frame, &mut done);
-        self.finish(done, outcome)
+        let mut frames = Items::new(self.alloc);
+        let outcome = self.take(frame, &mut frames);
+        self.finish(frames, outcome)
     }
 
     /// Makes one unit of work, or none where there is none.
@@ -105,6 +109,7 @@ impl Decision {
     /// behind that of the last build, round the list, with fewer than 16 messages in flight and a queued prefix that isn't marked in
     /// its RIB. It looks at the first 64 such prefixes. The errors are `NoMemory`, behind which the core is spent, and `Spent`.
     pub fn unit<L: Ledger>(&mut self, steps: &mut Steps<L>) -> Result<Done, CoreFault>
+        ensures reports { IfOk result (λ done. done.lines ≡ []) }
         ensures live { OnOk result (self.new.spent ≡ false) }
         ensures spent { OnErr result (IsTrue self.new.spent) }
         ensures was_spent { IsErrOf result CoreFault.Spent ↔ IsTrue self.old.spent }
@@ -113,9 +118,11 @@ impl Decision {
         if self.spent {
             return Err(CoreFault::Spent);
         }
-        let mut done = nothing(self.alloc);
-        let outcome = self.work(steps, &mut done);
-        self.finish(done, outcome)
+        let mut frames = Items::new(self.alloc);
+        match self.work(steps, &mut frames) {
+            Ok(()) => self.finish(frames, Ok(None)),
+            Err(_) => self.spend(),
+        }
     }
 
     /// Whether there is a unit of work.
@@ -139,6 +146,7 @@ impl Decision {
 
     /// The rows of a table, in the order in which they are shown. Where memory is refused, the core stays as it is.
     pub fn rows(&self, what: Table) -> Result<RowList, CoreFault>
+        ensures kind { IfOk result (λ rows. list_all (is_row_of what) rows ≡ true) }
         ensures was_spent { IsErrOf result CoreFault.Spent ↔ IsTrue self.now.spent }
     {
         if self.spent {
@@ -183,40 +191,56 @@ impl Decision {
 }
 
 impl Decision {
-    /// What a call answers whose work came to this outcome.
-    fn finish(&mut self, done: Done, outcome: Result<(), NoMemory>) -> Result<Done, CoreFault>
+    /// What a call answers that wrote these frames, and took up a configuration of this generation, if it took one up.
+    fn finish(
+        &mut self,
+        frames: SendList,
+        outcome: Result<Option<u32>, NoMemory>,
+    ) -> Result<Done, CoreFault>
+        ensures reports { IfOk result (λ done. IfOk outcome (λ generation. done.lines ≡ applied generation)) }
+        ensures took { OnOk result (IsOk outcome) }
         ensures live { OnOk result (self.new ≡ self.old) }
         ensures spent { OnErr result (IsTrue self.new.spent) }
         ensures fault { IfErr result (λ fault. fault ≡ CoreFault.NoMemory) }
     {
-        match outcome {
-            Ok(()) => Ok(done),
-            Err(_) => {
-                self.spent = true;
-                Err(CoreFault::NoMemory)
-            }
+        let Ok(generation) = outcome else {
+            return self.spend();
+        };
+        match given(self.alloc, generation, frames) {
+            Ok(done) => Ok(done),
+            Err(_) => self.spend(),
         }
     }
 
-    /// Takes a frame.
-    fn take(&mut self, frame: Frame, done: &mut Done) -> Result<(), NoMemory>
+    /// Memory ran out.
+    fn spend(&mut self) -> Result<Done, CoreFault>
+        ensures says { result ≡ Err CoreFault.NoMemory }
+        ensures spent { IsTrue self.new.spent }
+    {
+        self.spent = true;
+        Err(CoreFault::NoMemory)
+    }
+
+    /// Takes a frame. The answer is the generation of the configuration that it took up, if it took one up.
+    fn take(&mut self, frame: Frame, frames: &mut SendList) -> Result<Option<u32>, NoMemory>
         ensures { self.new.spent ≡ self.old.spent }
     {
         match frame {
+            Frame::Commit(generation) => return self.commit(generation, frames),
             Frame::Begin { generation, length } => {
-                stage(&mut self.assembly, StageItem::Begin { generation, length })
+                stage(&mut self.assembly, StageItem::Begin { generation, length })?;
             }
-            Frame::Piece(piece) => stage(&mut self.assembly, StageItem::Piece(piece)),
-            Frame::Commit(generation) => self.commit(generation, done),
+            Frame::Piece(piece) => stage(&mut self.assembly, StageItem::Piece(piece))?,
             Frame::Nexthop { hop, valid } => {
-                next_hop(&mut self.view, &mut self.tables, hop, valid)
+                next_hop(&mut self.view, &mut self.tables, hop, valid)?;
             }
-            frame => self.take_of_session(frame, done),
+            frame => self.take_of_session(frame, frames)?,
         }
+        Ok(None)
     }
 
     /// Takes a frame of the session core that isn't of a stage.
-    fn take_of_session(&mut self, frame: Frame, done: &mut Done) -> Result<(), NoMemory>
+    fn take_of_session(&mut self, frame: Frame, frames: &mut SendList) -> Result<(), NoMemory>
         ensures { self.new.spent ≡ self.old.spent }
     {
         match frame {
@@ -248,7 +272,7 @@ impl Decision {
                 session,
                 &withdrawn,
                 announced,
-                done,
+                frames,
             ),
             Frame::Credit { session, messages } => {
                 credit(&mut self.tables, session, messages);
@@ -262,24 +286,29 @@ impl Decision {
     }
 
     /// The next configuration is whole, and holds from now on. A Commit that can't follow what came before it is passed over.
-    fn commit(&mut self, generation: u32, done: &mut Done) -> Result<(), NoMemory>
+    fn commit(&mut self, generation: u32, frames: &mut SendList) -> Result<Option<u32>, NoMemory>
         ensures { self.new.spent ≡ self.old.spent }
     {
         let Some((generation, conf)) = committed(self.alloc, &mut self.assembly, generation)? else {
-            return Ok(());
+            return Ok(None);
         };
         let ribs = self.view.ribs();
         self.view.set_conf(generation, conf)?;
-        follow_swap(self.alloc, &mut self.view, &mut self.tables, ribs, done)
+        follow_swap(self.alloc, &mut self.view, &mut self.tables, ribs, frames)?;
+        Ok(Some(generation))
     }
 
     /// Makes the next unit.
-    fn work<L: Ledger>(&mut self, steps: &mut Steps<L>, done: &mut Done) -> Result<(), NoMemory>
+    fn work<L: Ledger>(
+        &mut self,
+        steps: &mut Steps<L>,
+        frames: &mut SendList,
+    ) -> Result<(), NoMemory>
         ensures { self.new.spent ≡ self.old.spent }
     {
         match next_unit(&self.view, &self.tables, self.last) {
             None => Ok(()),
-            Some(unit) => self.make(unit, steps, done),
+            Some(unit) => self.make(unit, steps, frames),
         }
     }
 
@@ -288,7 +317,7 @@ impl Decision {
         &mut self,
         unit: Unit,
         steps: &mut Steps<L>,
-        done: &mut Done,
+        frames: &mut SendList,
     ) -> Result<(), NoMemory>
         requires { CanBeDone self.old.routes unit }
         ensures { self.new.spent ≡ self.old.spent }
@@ -302,7 +331,7 @@ impl Decision {
                     &mut self.tables,
                     rib,
                     steps,
-                    done,
+                    frames,
                 )
             }
             Unit::Build(live) => {
@@ -310,7 +339,14 @@ impl Decision {
                     was_build: true,
                     build: Some(live.peer),
                 };
-                build(self.alloc, &self.view, &mut self.tables, live, steps, done)
+                build(
+                    self.alloc,
+                    &self.view,
+                    &mut self.tables,
+                    live,
+                    steps,
+                    frames,
+                )
             }
         }
     }

@@ -6,7 +6,7 @@ ghost use Rattle.rib_multi.specs.Rows.{is_marked_at};
 use crate::hops::{HopUses, Place};
 use crate::sending::to_parent;
 use crate::tables::Tables;
-use core_msgs::{Done, Frame};
+use core_msgs::{Frame, SendList};
 use decision::{Candidate, Found, Origin};
 use filter_engine::Steps;
 use net_base::{Addr, NoMemory, Prefix};
@@ -23,10 +23,10 @@ pub(crate) fn refresh<L: Ledger>(
     tables: &mut Tables,
     rib: u8,
     steps: &mut Steps<L>,
-    done: &mut Done,
+    frames: &mut SendList,
 ) -> Result<(), NoMemory> {
     match tables.routes.ribs().least(rib, &tables.known) {
-        Some(prefix) => go_over(alloc, view, tables, Place { rib, prefix }, steps, done),
+        Some(prefix) => go_over(alloc, view, tables, Place { rib, prefix }, steps, frames),
         None => Ok(()),
     }
 }
@@ -38,7 +38,7 @@ fn go_over<L: Ledger>(
     tables: &mut Tables,
     place: Place,
     steps: &mut Steps<L>,
-    done: &mut Done,
+    frames: &mut SendList,
 ) -> Result<(), NoMemory>
     requires { IsLeastOf (is_marked_at tables.old.known tables.old.routes.ribs place.rib) place.prefix }
 {
@@ -46,13 +46,13 @@ fn go_over<L: Ledger>(
     let found = candidates(alloc, view, tables.routes.held(), rib, prefix, steps)?;
     let before = hops_of(alloc, tables.routes.ribs().kept(rib, prefix))?;
     let behind = hops_found(alloc, found.as_slice())?;
-    track(view, &mut tables.hops, place, &behind, done)?;
-    untrack(view, &mut tables.hops, place, &before, &behind, done)?;
+    track(view, &mut tables.hops, place, &behind, frames)?;
+    untrack(view, &mut tables.hops, place, &before, &behind, frames)?;
     let always = view.conf().med_always;
     let outcome = tables
         .routes
         .refresh(&tables.known, rib, prefix, found, always)?;
-    pass_on(view, tables, place, outcome, done)
+    pass_on(view, tables, place, outcome, frames)
 }
 
 /// What a refresh changed goes on: to the queues of the sessions of the RIB, and to its kernel table.
@@ -61,12 +61,12 @@ fn pass_on(
     tables: &mut Tables,
     place: Place,
     outcome: Outcome,
-    done: &mut Done,
+    frames: &mut SendList,
 ) -> Result<(), NoMemory> {
     if outcome.changed {
         queue_in_rib(view, tables, place)?;
     }
-    tell_fib(view, tables, place, outcome, done)?;
+    tell_fib(view, tables, place, outcome, frames)?;
     tables.note(view, place.prefix)
 }
 
@@ -98,12 +98,12 @@ fn track(
     uses: &mut HopUses,
     place: Place,
     hops: &BTreeSet<Addr>,
-    done: &mut Done,
+    frames: &mut SendList,
 ) -> Result<(), NoMemory> {
     for hop in hops.iter() {
         if uses.add(*hop, place)? {
             view.track(*hop)?;
-            to_parent(done, Frame::Track(*hop))?;
+            to_parent(frames, Frame::Track(*hop))?;
         }
     }
     Ok(())
@@ -116,12 +116,12 @@ fn untrack(
     place: Place,
     hops: &BTreeSet<Addr>,
     but: &BTreeSet<Addr>,
-    done: &mut Done,
+    frames: &mut SendList,
 ) -> Result<(), NoMemory> {
     for hop in hops.iter() {
         if !but.contains(hop) && uses.remove(*hop, place) {
             view.untrack(*hop);
-            to_parent(done, Frame::Untrack(*hop))?;
+            to_parent(frames, Frame::Untrack(*hop))?;
         }
     }
     Ok(())
@@ -143,7 +143,7 @@ fn tell_fib(
     tables: &mut Tables,
     place: Place,
     outcome: Outcome,
-    done: &mut Done,
+    frames: &mut SendList,
 ) -> Result<(), NoMemory> {
     let Place { rib, prefix } = place;
     let Outcome { changed, hop } = outcome;
@@ -154,7 +154,7 @@ fn tell_fib(
         return Ok(());
     }
     tables.fib.tell(table, prefix, hop)?;
-    to_parent(done, row_frame(table, prefix, hop))
+    to_parent(frames, row_frame(table, prefix, hop))
 }
 
 /// The frame that tells a kernel table its row of a prefix.

@@ -5,7 +5,7 @@ use crate::refreshing::hops_of;
 use crate::sending::to_parent;
 use crate::tables::Tables;
 use crate::taking::check_limit;
-use core_msgs::{Done, Frame, Line};
+use core_msgs::{Frame, SendList};
 use net_base::{Addr, Items, NoMemory, Prefix, PrefixList};
 use rde_view::View;
 use rib_multi::{MOST_RIBS, RibMulti};
@@ -19,20 +19,19 @@ pub(crate) fn follow_swap(
     view: &mut View,
     tables: &mut Tables,
     ribs: u8,
-    done: &mut Done,
+    frames: &mut SendList,
 ) -> Result<(), NoMemory> {
     let before = tables.known.to_list(alloc)?;
-    leave_ribs(alloc, view, tables, ribs, &before, done)?;
+    leave_ribs(alloc, view, tables, ribs, &before, frames)?;
     let numbers = table_numbers(alloc, view)?;
     tables.fib.configure(numbers.as_slice())?;
     tables.note_all(view, before.as_slice())?;
     note_networks(view, tables)?;
-    done.lines.push(Line::AppliedDecision(view.generation()))?;
-    to_parent(done, Frame::Ack(view.generation()))?;
+    to_parent(frames, Frame::Ack(view.generation()))?;
     start(view, tables);
     mark_unknown(view, tables, before.as_slice())?;
     queue_all(view, tables)?;
-    check_limits(view, tables, done)
+    check_limits(view, tables, frames)
 }
 
 /// Drops what the RIBs keep that the configuration lacks, and the next hops that are used there alone.
@@ -42,7 +41,7 @@ fn leave_ribs(
     tables: &mut Tables,
     ribs: u8,
     known: &PrefixList,
-    done: &mut Done,
+    frames: &mut SendList,
 ) -> Result<(), NoMemory> {
     let mut gone = BTreeSet::new(alloc);
     for rib in view.ribs()..ribs {
@@ -50,7 +49,7 @@ fn leave_ribs(
         leave_rib(alloc, kept, &mut tables.hops, rib, known, &mut gone)?;
     }
     tables.routes.shrink(view.ribs());
-    untrack_all(view, &gone, done)
+    untrack_all(view, &gone, frames)
 }
 
 /// The candidates that are kept in a RIB use their next hops no more. Those that aren't used any more are added.
@@ -90,10 +89,14 @@ fn leave(
 }
 
 /// Next hops are no longer tracked.
-fn untrack_all(view: &mut View, gone: &BTreeSet<Addr>, done: &mut Done) -> Result<(), NoMemory> {
+fn untrack_all(
+    view: &mut View,
+    gone: &BTreeSet<Addr>,
+    frames: &mut SendList,
+) -> Result<(), NoMemory> {
     for hop in gone.iter() {
         view.untrack(*hop);
-        to_parent(done, Frame::Untrack(*hop))?;
+        to_parent(frames, Frame::Untrack(*hop))?;
     }
     Ok(())
 }
@@ -152,9 +155,9 @@ fn queue_all(view: &View, tables: &mut Tables) -> Result<(), NoMemory> {
 }
 
 /// Writes Close for each session that holds more routes than its neighbour may announce, by address.
-fn check_limits(view: &View, tables: &mut Tables, done: &mut Done) -> Result<(), NoMemory> {
+fn check_limits(view: &View, tables: &mut Tables, frames: &mut SendList) -> Result<(), NoMemory> {
     for (_, live) in view.sessions().iter() {
-        check_limit(view, tables, *live, done)?;
+        check_limit(view, tables, *live, frames)?;
     }
     Ok(())
 }

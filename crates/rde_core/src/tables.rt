@@ -1,10 +1,8 @@
 //! What the decision core has beside its view.
 
-ghost use Rattle.std.specs.Prelude.{◌≡◌, ◌<◌, [], not, take, IfOk, IfSome};
-ghost use Rattle.std.specs.List.{filter};
-ghost use Rattle.rib_multi.specs.Rows.{is_marked_at};
+ghost use Rattle.std.specs.Prelude.{◌≡◌, ◌<◌, [], IfOk, IfSome};
 ghost use Rattle.rde_tables.specs.Routes.{IsExact};
-ghost use Rattle.rde_core.specs.Ready.{IsReady};
+ghost use Rattle.rde_core.specs.Ready.{IsReady, first_unmarked};
 
 use crate::fib::FibTold;
 use crate::hops::HopUses;
@@ -108,19 +106,6 @@ impl Tables {
         Ok(())
     }
 
-    /// Queues prefixes for a session, to be told again where `again` says so.
-    pub(crate) fn queue_all(
-        &mut self,
-        session: u32,
-        prefixes: &[Prefix],
-        again: bool,
-    ) -> Result<(), NoMemory> {
-        for prefix in prefixes {
-            self.routes.queue(session, *prefix, again)?;
-        }
-        Ok(())
-    }
-
     /// Queues every known prefix for a session.
     pub(crate) fn queue_known(&mut self, session: u32) -> Result<(), NoMemory> {
         for prefix in self.known.in_order().iter() {
@@ -153,7 +138,6 @@ impl Tables {
     }
 
     /// The first prefixes, so many at most, that are queued for a session and aren't marked in a RIB, in order.
-    #[tactic(auto, using(crate::proofs::Ready::first_are_ready))]
     pub(crate) fn ready(
         &self,
         alloc: Global,
@@ -180,7 +164,7 @@ impl Tables {
         rib: u8,
         most: usize,
     ) -> Result<PrefixList, NoMemory>
-        ensures ready { IfOk result (λ ready. ready ≡ take most (filter (λ p. not (is_marked_at self.now.known self.now.routes.ribs rib p)) prefixes.now)) }
+        ensures ready { IfOk result (λ ready. ready ≡ first_unmarked self.now.known self.now.routes.ribs rib most prefixes.now) }
     {
         let ready = self.first_unmarked(alloc, prefixes.in_order(), rib, most)?;
         Ok(Items::from_vec(ready))
@@ -194,7 +178,7 @@ impl Tables {
         rib: u8,
         most: usize,
     ) -> Result<Vec<Prefix>, NoMemory>
-        ensures { IfOk result (λ ready. ready.items ≡ take most (filter (λ p. not (is_marked_at self.now.known self.now.routes.ribs rib p)) prefixes.now.keys)) }
+        ensures { IfOk result (λ ready. ready.items ≡ first_unmarked self.now.known self.now.routes.ribs rib most prefixes.now.keys) }
     {
         let ready = prefixes
             .iter()

@@ -3,7 +3,7 @@
 use crate::sending::to_session;
 use crate::tables::Tables;
 use attr_model::Attrs;
-use core_msgs::{Done, Frame};
+use core_msgs::{Frame, SendList};
 use net_base::{Addr, Family, NoMemory, Prefix, PrefixList};
 use rde_view::{Live, View};
 use rib_multi::MOST_RIBS;
@@ -62,7 +62,7 @@ pub(crate) fn routes(
     session: u32,
     withdrawn: &PrefixList,
     announced: Option<(Attrs, PrefixList)>,
-    done: &mut Done,
+    frames: &mut SendList,
 ) -> Result<(), NoMemory> {
     let Some(live) = view.numbered(session) else {
         return Ok(());
@@ -73,7 +73,7 @@ pub(crate) fn routes(
     if let Some((attrs, prefixes)) = announced {
         announce(view, tables, session, attrs, &prefixes)?;
     }
-    check_limit(view, tables, live, done)
+    check_limit(view, tables, live, frames)
 }
 
 /// Routes of a session are announced with these attributes.
@@ -127,7 +127,7 @@ pub(crate) fn check_limit(
     view: &View,
     tables: &mut Tables,
     live: Live,
-    done: &mut Done,
+    frames: &mut SendList,
 ) -> Result<(), NoMemory> {
     let Some(most) = most_of(view, live.peer) else {
         return Ok(());
@@ -137,7 +137,7 @@ pub(crate) fn check_limit(
         return Ok(());
     }
     to_session(
-        done,
+        frames,
         Frame::Close {
             session: live.number,
             code: 6,

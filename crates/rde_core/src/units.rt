@@ -1,9 +1,8 @@
 //! Which unit of work comes next.
 
-ghost use Rattle.std.specs.Prelude.{◌≡◌, ◌<◌, length, IfSome, IsTrue};
-ghost use Rattle.adj_rib_out.specs.Out.{out_at};
+ghost use Rattle.std.specs.Prelude.{◌<◌, IfSome, IsTrue};
 ghost use Rattle.rde_tables.specs.Routes.{AllRoutes};
-ghost use Rattle.rde_core.specs.Units.{CanBeDone};
+ghost use Rattle.rde_core.specs.Units.{CanBeDone, HasRoom};
 
 use crate::tables::Tables;
 use net_base::Addr;
@@ -45,7 +44,7 @@ pub(crate) fn next_unit(view: &View, tables: &Tables, last: LastUnits) -> Option
 /// A refresh of a RIB, or a build where one is possible and the last unit was none.
 fn refresh_or(rib: u8, build: Option<Live>, was_build: bool) -> Unit
     ensures { (routes : AllRoutes) → rib < 16 →
-        IfSome build (λ live. length (out_at routes.outs live.number).flight < 16) → CanBeDone routes result }
+        IfSome build (HasRoom routes) → CanBeDone routes result }
 {
     match build {
         Some(live) if !was_build => Unit::Build(live),
@@ -56,7 +55,7 @@ fn refresh_or(rib: u8, build: Option<Live>, was_build: bool) -> Unit
 /// A build as a unit.
 fn build_of(build: Option<Live>) -> Option<Unit>
     ensures { (routes : AllRoutes) →
-        IfSome build (λ live. length (out_at routes.outs live.number).flight < 16) → IfSome result (CanBeDone routes) }
+        IfSome build (HasRoom routes) → IfSome result (CanBeDone routes) }
 {
     match build {
         Some(live) => Some(Unit::Build(live)),
@@ -66,7 +65,7 @@ fn build_of(build: Option<Live>) -> Option<Unit>
 
 /// The session with the next neighbour behind the last build for which a build is possible, round the list.
 fn next_build(view: &View, tables: &Tables, last: Option<Addr>) -> Option<Live>
-    ensures { IfSome result (λ live. length (out_at tables.now.routes.outs live.number).flight < 16) }
+    ensures { IfSome result (HasRoom tables.now.routes) }
 {
     let above = match last {
         Some(last) => first_above(view, tables, last),
@@ -80,7 +79,7 @@ fn next_build(view: &View, tables: &Tables, last: Option<Addr>) -> Option<Live>
 
 /// The session with the first neighbour above an address for which a build is possible.
 fn first_above(view: &View, tables: &Tables, last: Addr) -> Option<Live>
-    ensures { IfSome result (λ live. length (out_at tables.now.routes.outs live.number).flight < 16) }
+    ensures { IfSome result (HasRoom tables.now.routes) }
 {
     let above = (Bound::Excluded(last), Bound::Unbounded);
     for (_, live) in view.sessions().range(above) {
@@ -93,7 +92,7 @@ fn first_above(view: &View, tables: &Tables, last: Addr) -> Option<Live>
 
 /// The session with the first neighbour for which a build is possible.
 fn first_of_all(view: &View, tables: &Tables) -> Option<Live>
-    ensures { IfSome result (λ live. length (out_at tables.now.routes.outs live.number).flight < 16) }
+    ensures { IfSome result (HasRoom tables.now.routes) }
 {
     for (_, live) in view.sessions().iter() {
         if can_build(view, tables, live) {
@@ -105,7 +104,7 @@ fn first_of_all(view: &View, tables: &Tables) -> Option<Live>
 
 /// Whether fewer than 16 messages of a session are in flight, and a prefix is queued for it that isn't marked in its RIB.
 fn can_build(view: &View, tables: &Tables, live: &Live) -> bool
-    ensures { IsTrue result → length (out_at tables.now.routes.outs live.now.number).flight < 16 }
+    ensures { IsTrue result → HasRoom tables.now.routes live.now }
 {
     tables.routes.outs().in_flight(live.number) < WINDOW
         && tables.has_ready(live.number, view.rib_of(live.peer))

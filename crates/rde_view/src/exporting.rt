@@ -9,7 +9,6 @@ ghost use Rattle.rde_view.specs.View.{facts_of, told_by};
 
 use crate::{Live, View};
 use attr_model::Attrs;
-use conf_tree::Neighbour;
 use decision::Candidate;
 use filter_engine::Steps;
 use net_base::{NoMemory, Prefix};
@@ -20,7 +19,6 @@ use std::sync::ledger::Ledger;
 
 /// What a session is to be told of a prefix by the best route to it. Nothing where there is none, or the configuration lacks its
 /// neighbour.
-#[tactic(auto, using(crate::proofs::Alone::want_fits))]
 pub fn want<L: Ledger>(
     alloc: Global,
     view: &View,

@@ -14,8 +14,7 @@ use conf_sets::Sets;
 use conf_tree::{Conf, Neighbour, Network};
 use filter_engine::{SkipTable, settled_rules_name_sets};
 use net_base::{Addr, NoMemory, Prefix};
-use rib_multi::MOST_RIBS;
-use std::alloc::Global;
+use std::alloc::{AllocError, Global};
 use std::collections::BTreeMap;
 use std::marker::Model;
 
@@ -203,20 +202,26 @@ impl View {
     }
 
     /// A session comes up. The answer is whether it did: it doesn't where its number or its neighbour has a session, or 256 are up.
-    /// Where memory is refused, no session comes up.
+    /// Where memory is refused, the view is as it was.
     #[tactic(auto, using(net_base::proofs::Order::derived_addr_cmp))]
     pub fn up(&mut self, live: Live) -> Result<bool, NoMemory>
         ensures up { IfOk result (λ up. up ≡ true → self.new.sessions ≡ insert_entry addr_cmp self.old.sessions live.peer live) }
         ensures refused { IfOk result (λ up. up ≡ false → self.new ≡ self.old) }
         ensures full { IfOk result (λ up. up ≡ true → length self.old.sessions < 256) }
         ensures others { self.new ≡ record self.old { sessions = self.new.sessions } }
+        ensures err { OnErr result (self.new ≡ self.old) }
     {
         if !self.has_room(live) {
             return Ok(false);
         }
         self.peers.insert(live.number, live.peer)?;
-        self.sessions.insert(live.peer, live)?;
-        Ok(true)
+        match self.sessions.insert(live.peer, live) {
+            Ok(_) => Ok(true),
+            Err(_) => {
+                self.peers.remove(&live.number);
+                Err(AllocError)
+            }
+        }
     }
 
     /// Whether a session can come up.

@@ -1,5 +1,5 @@
 -- The sessions that come up have the numbers 1, 2, 3, .., each once.
-use Rattle.std.proofs.Common.{◌≡◌, ◌⊎◌, ◌∙◌, ℕ, ◌+◌, Bool, true, false, not, cond, List, [], ◌∷◌, ◌++◌, append-nil, map, filter, Option, Some, None, Result, Ok, Err, inl, inr, refl, sym, ap, arith}
+use Rattle.std.proofs.Common.{◌≡◌, ◌≤◌, ◌⊎◌, ◌∙◌, ℕ, ◌+◌, Bool, true, false, not, cond, List, [], ◌∷◌, ◌++◌, append-nil, map, filter, Option, Some, None, Result, Ok, Err, inl, inr, refl, sym, ap, arith}
 use Rattle.std.proofs.lemmas.List.FromFn.{map-range_with_len_more}
 use Rattle.std.specs.List.{range_with_len}
 use Rattle.std.specs.Map.{keys_of}
@@ -35,6 +35,7 @@ use Rattle.session_core.specs.Events.{happens}
 use Rattle.session_core.specs.History.{Call, DoesCall, History, Opened, Lost, Heard, Told, Wrote, Stalled, Took, Applied, Commanded, Stopped, Stands, Step, written}
 use Rattle.session_core.specs.Numbers.{noted, noted_frame}
 use Rattle.session_core.specs.Reloads.{Plan, changes, changes_found, plan_of, reloads, same_rules}
+use Rattle.session_core.specs.Told.{most_ups}
 use Rattle.session_core.specs.Sessions.{Live, Sessions, live_peer, peer_at}
 use Rattle.session_core.specs.Shows.{couple_frames}
 use Rattle.session_core.proofs.Numbering.{call_keeps}
@@ -170,8 +171,11 @@ command_is (ctl.Neighbour at action) core = event_is at (peer.Operator action) c
 abbrev Ups : Sessions → Done → Type 0
 Ups old done = (ups done.frames ≡ []) ⊎ (ups done.frames ≡ (old.live.last + 1) ∷ [])
 
+quiet_given : (reply : Reply) (new : Sessions) (done : Done) → IsQuiet reply → Gives reply new done → ups done.frames ≡ []
+quiet_given reply new done quiet gives = ap (λ (d : Done). ups d.frames) gives.1 ∙ quiet
+
 given : (reply : Reply) (old new : Sessions) (done : Done) → IsQuiet reply → Gives reply new done → Ups old done
-given reply old new done quiet gives = inl (ap (λ (d : Done). ups d.frames) gives.1 ∙ quiet)
+given reply old new done quiet gives = inl (quiet_given reply new done quiet gives)
 
 heard : (at : Addr) (piece : List ℕ) (old new : Sessions) (done : Done) → Hears at piece old new done → Ups old done
 heard at piece old new done h = go (handles_ups (old.live.last + 1) old.moment (feeds piece (course_of h.handles.neighbour (begun old.neighbours))) h.handles.behind h.handles.handles)
@@ -239,6 +243,33 @@ last_is step old core does numbers e =
     ap (λ (live : Live). live.last) (call_keeps step.call old core step.done does)
     ∙ noted_last step.done.frames old.live
     ∙ ap (last_of old.live.last) e
+
+-- ---- how many sessions a call may bring up
+
+few_by : (call : Call) (old new : Sessions) (done : Done) → DoesCall call old new done → (numbers : List ℕ) → ups done.frames ≡ numbers →
+    last_of old.live.last numbers ≤ old.live.last + most_ups call → new.live.last ≤ old.live.last + most_ups call
+few_by call old new done does numbers e few = omega (arith, few, last_is (record { call = call; done = done }) old new does numbers e)
+
+few_heard : (at : Addr) (piece : List ℕ) (old new : Sessions) (done : Done) → Hears at piece old new done → Ups old done → new.live.last ≤ old.live.last + 1
+few_heard at piece old new done does (inl none) = few_by (Heard at piece) old new done does [] none (omega arith)
+few_heard at piece old new done does (inr one) = few_by (Heard at piece) old new done does ((old.live.last + 1) ∷ []) one (omega arith)
+
+quiet_few : (call : Call) (reply : Reply) (old new : Sessions) (done : Done) → DoesCall call old new done → IsQuiet reply → Gives reply new done
+    → new.live.last ≤ old.live.last + most_ups call
+quiet_few call reply old new done does quiet gives = few_by call old new done does [] (quiet_given reply new done quiet gives) (omega arith)
+
+-- but for bytes a call brings up none, and bytes bring up one at most
+pub few_ups : (call : Call) (old new : Sessions) (done : Done) → DoesCall call old new done → new.live.last ≤ old.live.last + most_ups call
+few_ups (Opened at) old new done does = quiet_few (Opened at) _ old new done does (event_is at peer.Opened old) does
+few_ups (Lost at) old new done does = quiet_few (Lost at) _ old new done does (event_is at peer.Lost old) does
+few_ups (Heard at piece) old new done does = few_heard at piece old new done does (heard at piece old new done does)
+few_ups (Told now) old new done does = quiet_few (Told now) _ old new done does (all_is Deadline (record old { moment = now })) does
+few_ups (Wrote at most) old new done does = quiet_few (Wrote at most) _ old new done does (event_is at (peer.Write most) old) does
+few_ups (Stalled at stalled) old new done does = quiet_few (Stalled at stalled) _ old new done does (event_is at (peer.Stall stalled) old) does
+few_ups (Took frame) old new done does = quiet_few (Took frame) _ old new done does (frame_is frame old) does
+few_ups (Applied conf generation) old new done does = quiet_few (Applied conf generation) _ old new done does (apply_is conf generation old) does
+few_ups (Commanded command) old new done does = quiet_few (Commanded command) _ old new done does (command_is command old) does
+few_ups Stopped old new done does = quiet_few Stopped _ old new done does (all_is Stop old) does
 
 all_ups : (step : Step) (h : History) (old : Sessions) (numbers : List ℕ) → ups (written h) ≡ range_with_len 1 old.live.last → ups step.done.frames ≡ numbers
     → ups (written h ++ step.done.frames) ≡ range_with_len 1 old.live.last ++ numbers

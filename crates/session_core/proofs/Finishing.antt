@@ -12,10 +12,11 @@ use Rattle.peer_session.specs.Calls.{Refuses as PeerRefuses, loss_refusal_in, ma
 use Rattle.peer_session.specs.Neighbour.{Neighbour, is_connected}
 use Rattle.session_core.specs.declared.event.PeerEvent.{PeerEvent}
 use Rattle.session_core.specs.declared.event.PeerEvent.TheVariants as peer
-use Rattle.session_core.specs.Calls.{Finishes, Hears, IsRefused, Refuses, refused_by}
-use Rattle.session_core.specs.Courses.{Courses, HandlesAt, begun, courses}
-use Rattle.session_core.specs.Events.{action_refusal, event_refusal, refusal_at, unknown_refusal}
+use Rattle.session_core.specs.Calls.{Finishes, Gives, Hears, IsRefused, Refuses, event_reply, refused_by}
+use Rattle.session_core.specs.Courses.{Courses, HandlesAt, at_neighbour, begun, courses}
+use Rattle.session_core.specs.Events.{action_refusal, event_refusal, happens, refusal_at, unknown_refusal}
 use Rattle.session_core.specs.History.{Follows, Heard}
+use Rattle.session_core.specs.Numbers.{noted}
 use Rattle.session_core.specs.Sessions.{Peers, Sessions}
 
 -- the refusal is for another reason than memory
@@ -113,6 +114,23 @@ pub event_goes : (why : Option SessionRefusal) (answer : Result Done SessionRefu
     → Refuses (refused_by old why) old new answer → IfErr answer (λ w. (w ≡ refusals.NoMemory) × IsTrue new.spent)
 event_goes why answer old new live free refuses =
     subst (λ (w : Option SessionRefusal). Refuses w old new answer) (ap (λ (b : Bool). cond b (Some refusals.Spent) why) live ∙ free) refuses
+
+-- an event that was done
+pub event_gives : (at : Addr) (event : PeerEvent) (outcome : Result (Unit {0}) SessionRefusal) (answer : Result Done SessionRefusal) (peers : Peers)
+    (old new : Sessions) (start done : Done) → start ≡ record { lines = []; frames = [] }
+    → OnOk outcome (courses peers done ≡ at_neighbour at (happens event old.moment) (courses old.neighbours start))
+    → Finishes outcome done (with_peers peers old) new answer → IfOk answer (λ given. Gives (event_reply at event old) new given)
+event_gives at event (Ok _) (Ok given) peers old new start done none does finishes =
+    let is : courses peers done ≡ at_neighbour at (happens event old.moment) (begun old.neighbours) =
+    does ∙ ap (λ (s : Done). at_neighbour at (happens event old.moment) (courses old.neighbours s)) none in (
+      finishes.1 ∙ ap (λ (c : Courses). record old { neighbours = c.peers; live = noted c.frames old.live }) is,
+      finishes.0 ∙ ap (λ (c : Courses). record { lines = c.lines; frames = c.frames }) is,
+    )
+event_gives at event (Err why) (Ok given) peers old new start done none does finishes = absurd (no finishes.says)
+  where
+    no : Ok given ≡ Err why → ⊥
+    no e = cc
+event_gives at event outcome (Err why) peers old new start done none does finishes = tt
 
 -- bytes that were handled
 pub hears : (outcome : Result (Unit {0}) SessionRefusal) (answer : Result Done SessionRefusal) (at : Addr) (piece : List ℕ) (number : ℕ) (peers : Peers)

@@ -1,5 +1,6 @@
-mod Climbing
+pub mod Climbing
 mod Finishing
+pub mod Lines
 mod Meeting
 mod Numbering
 mod Rules

@@ -19,14 +19,13 @@ use Rattle.core_msgs.specs.declared.parts.Core.TheVariants.{Parent}
 use Rattle.conf_shows.specs.Shown.{set_rows}
 use Rattle.peer_session.specs.declared.refusal.SessionRefusal.{SessionRefusal}
 use Rattle.peer_session.specs.declared.refusal.SessionRefusal.TheVariants as refusals
-use Rattle.peer_session.specs.Neighbour.{Neighbour}
 use Rattle.session_core.specs.declared.event.AllEvent.{AllEvent}
 use Rattle.session_core.specs.declared.event.AllEvent.TheVariants.{Deadline}
 use Rattle.session_core.specs.declared.event.PeerEvent.{PeerEvent}
 use Rattle.session_core.specs.declared.event.PeerEvent.TheVariants as peer
-use Rattle.session_core.specs.Sessions.{Peers, Sessions, live_peer, peer_at}
+use Rattle.session_core.specs.Sessions.{Sessions, live_peer, peer_at}
 use Rattle.session_core.specs.Courses.{Courses, HandlesAt, at_neighbour, begun, for_all}
-use Rattle.session_core.specs.Events.{CanHappenAt, happens, refusal_at}
+use Rattle.session_core.specs.Events.{CanHappen, happens, refusal_at}
 use Rattle.session_core.specs.Numbers.{noted}
 use Rattle.session_core.specs.Reloads.{plan_of, reloads}
 use Rattle.session_core.specs.Shows.{couple_frames, neighbour_rows, rib_refusal, rows_refusal, summary_row, table_refusal}
@@ -126,16 +125,10 @@ frame_reply (frames.Close session code sub held most) core = session_reply sessi
 frame_reply (frames.Routes session family withdrawn announced) core = session_reply session (peer.Routes withdrawn announced) core
 frame_reply frame core = still core
 
--- the neighbour of a session that is up
-abbrev pub peer_by : Option Addr → Peers → Option Neighbour
-peer_by None peers = None
-peer_by (Some at) peers = peer_at at peers
-
--- Routes of a session that is up can be written by what was agreed.
-abbrev pub CanTake : Sessions → Frame → Type 0
-CanTake core (frames.Routes session family withdrawn announced) =
-    CanHappenAt (peer.Routes withdrawn announced) (peer_by (live_peer session core.live) core.neighbours)
-CanTake core _ = Unit {0}
+-- Routes have valid attributes, and prefixes of one family.
+abbrev pub CanTake : Frame → Type 0
+CanTake (frames.Routes session family withdrawn announced) = CanHappen (peer.Routes withdrawn announced)
+CanTake _ = Unit {0}
 
 -- the core as it is, with lines that it reports or frames that it writes
 abbrev pub reports : List Line → Sessions → Reply

@@ -1,11 +1,11 @@
 -- What happens to one neighbour beside the bytes that it sends: why that is refused, and what is done otherwise.
-use Rattle.std.specs.Prelude.{ℕ, Option, Some, None, IsTrue}
+use Rattle.std.specs.Prelude.{ℕ, Bool, Option, Some, None}
 use Rattle.core_msgs.specs.declared.control.SessionAction.{SessionAction}
 use Rattle.core_msgs.specs.declared.control.SessionAction.TheVariants.{Up, Down, Clear, Refresh}
 use Rattle.peer_session.specs.declared.refusal.SessionRefusal.{SessionRefusal}
 use Rattle.peer_session.specs.declared.refusal.SessionRefusal.TheVariants as refusals
-use Rattle.peer_session.specs.Neighbour.{Course, Neighbour, is_established}
-use Rattle.peer_session.specs.Calls.{CanRoute, asks, clears, comes_back, connection_refusal, exceeds, expires, goes_down, loses, loss_refusal_in, open_refusal_in, opens, refresh_refusal, routes_to, writes}
+use Rattle.peer_session.specs.Neighbour.{Course, Neighbour}
+use Rattle.peer_session.specs.Calls.{AreRoutes, asks, clears, comes_back, connection_refusal, exceeds, expires, goes_down, loses, loss_refusal_in, open_refusal_in, opens, refresh_refusal, routes_to, writes}
 use Rattle.session_core.specs.declared.event.AllEvent.TheVariants as all
 use Rattle.session_core.specs.declared.event.PeerEvent.{PeerEvent}
 use Rattle.session_core.specs.declared.event.PeerEvent.TheVariants as peer
@@ -61,11 +61,24 @@ happens (peer.Operator action) now c = operates action now c
 happens (peer.Close held most) now c = exceeds held most now c
 happens (peer.Routes withdrawn announced) now c = routes_to withdrawn announced c
 
--- Routes for a session that is up can be written by what was agreed.
-abbrev pub CanHappen : PeerEvent → Neighbour → Type 0
-CanHappen (peer.Routes withdrawn announced) n = IsTrue (is_established n) → CanRoute n.facts withdrawn announced
-CanHappen event n = Unit {0}
+-- Routes have valid attributes, and prefixes of one family.
+abbrev pub CanHappen : PeerEvent → Type 0
+CanHappen (peer.Routes withdrawn announced) = AreRoutes withdrawn announced
+CanHappen event = Unit {0}
 
-abbrev pub CanHappenAt : PeerEvent → Option Neighbour → Type 0
-CanHappenAt event None = Unit {0}
-CanHappenAt event (Some n) = CanHappen event n
+-- ---- the same for each call by itself
+
+abbrev pub opened_refusal : Option Neighbour → Option SessionRefusal
+opened_refusal o = refusal_at peer.Opened o
+
+abbrev pub lost_refusal : Option Neighbour → Option SessionRefusal
+lost_refusal o = refusal_at peer.Lost o
+
+abbrev pub write_refusal : ℕ → Option Neighbour → Option SessionRefusal
+write_refusal most o = refusal_at (peer.Write most) o
+
+abbrev pub stall_refusal : Bool → Option Neighbour → Option SessionRefusal
+stall_refusal stalled o = refusal_at (peer.Stall stalled) o
+
+abbrev pub operator_refusal : SessionAction → Option Neighbour → Option SessionRefusal
+operator_refusal action o = refusal_at (peer.Operator action) o

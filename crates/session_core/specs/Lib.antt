@@ -6,3 +6,4 @@ pub mod Reloads
 pub mod Shows
 pub mod Calls
 pub mod History
+pub mod Told

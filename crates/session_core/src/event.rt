@@ -84,7 +84,7 @@ impl PeerEvent {
         now: u64,
         done: &mut Done,
     ) -> Result<(), SessionRefusal>
-        requires { CanHappen self neighbour.old }
+        requires { CanHappen self }
         ensures ok { OnOk result (Does (happens self now) neighbour.old neighbour.new done.old done.new) }
         ensures refused { Refuses (event_refusal self neighbour.old) (IsSame neighbour.old neighbour.new done.old done.new) result }
     {

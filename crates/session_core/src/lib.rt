@@ -9,6 +9,9 @@ mod session;
 mod settings;
 mod shows;
 
-pub use laws::{numbers_climb_by_one, numbers_follow_the_frames};
+pub use laws::{
+    bytes_alone_bring_sessions_up, numbers_climb_by_one, numbers_follow_the_frames,
+    reports_are_of_their_kinds, time_is_told,
+};
 pub use peer_session::SessionRefusal;
 pub use session::Session;

@@ -4,7 +4,7 @@ ghost use Rattle.peer_session.specs.Calls.{Refuses};
 ghost use Rattle.peer_session.specs.Neighbour.{Does};
 ghost use Rattle.session_core.specs.declared.event.PeerEvent.TheVariants.{All};
 ghost use Rattle.session_core.specs.Courses.{HandlesAt, at_neighbour, courses, for_all};
-ghost use Rattle.session_core.specs.Events.{CanHappenAt, bytes_refusal, happens, refusal_at};
+ghost use Rattle.session_core.specs.Events.{CanHappen, bytes_refusal, happens, refusal_at};
 ghost use Rattle.session_core.specs.Reloads.{changes_found, comes_at, leaving, plan_of, reconfigures, reloads};
 ghost use Rattle.session_core.specs.Sessions.{outbox_at, peer_at, stalled_at};
 ghost use Rattle.session_core.specs.Shows.{neighbour_row, neighbour_rows, row_of, row_refusal, rows_refusal, summary_row};
@@ -18,6 +18,7 @@ use net_base::{Addr, Items, NoMemory};
 use peer_session::{NeighbourSession, SessionRefusal, Settings};
 use std::alloc::Global;
 use std::collections::BTreeMap;
+use std::collections::btree_map::Keys;
 use std::marker::Model;
 
 /// What becomes of each neighbour that is there or is to come, by address: its settings, or none where it goes.
@@ -69,6 +70,11 @@ impl Neighbours {
         }
     }
 
+    /// The neighbours, by address.
+    pub(crate) fn peers(&self) -> Keys<'_, Addr, NeighbourSession> {
+        self.by_address.keys()
+    }
+
     /// Something happens to one neighbour. Where it isn't there, that is refused, or passed over.
     pub(crate) fn happen(
         &mut self,
@@ -77,7 +83,7 @@ impl Neighbours {
         now: u64,
         done: &mut Done,
     ) -> Result<(), SessionRefusal>
-        requires { CanHappenAt event (peer_at peer self.old) }
+        requires { CanHappen event }
         ensures ok { OnOk result (courses self.new done.new ≡ at_neighbour peer (happens event now) (courses self.old done.old)) }
         ensures refused { Refuses (refusal_at event (peer_at peer self.old)) (courses self.new done.new ≡ courses self.old done.old) result }
     {

@@ -5,11 +5,11 @@ ghost use Rattle.reload_stage.specs.declared.assembly.Progress.TheVariants.{Whol
 ghost use Rattle.peer_session.specs.declared.refusal.SessionRefusal.TheVariants.{NoMemory as Memory};
 ghost use Rattle.session_core.specs.declared.event.AllEvent.TheVariants.{Deadline as Expires, Stop as Stops};
 ghost use Rattle.session_core.specs.declared.event.PeerEvent.TheVariants as events;
-ghost use Rattle.session_core.specs.Calls.{Answers, CanTake, Finishes, Gives, Hears, IsRefused, Notes, Refuses, all_reply, answer_reply, applied, apply_reply, command_refusal, command_reply, commit_reply, emptied, event_reply, frame_reply, is_show, item_reply, peer_by, read_reply, refused_by, session_reply, still, time_refusal, time_reply};
+ghost use Rattle.session_core.specs.Calls.{Answers, CanTake, Finishes, Gives, Hears, IsRefused, Notes, Refuses, all_reply, answer_reply, applied, apply_reply, command_refusal, command_reply, commit_reply, emptied, event_reply, frame_reply, is_show, item_reply, read_reply, refused_by, session_reply, still, time_refusal, time_reply};
 ghost use Rattle.peer_session.specs.Neighbour.{Neighbour};
 ghost use Rattle.peer_session.specs.Calls.{Refuses as PeerRefuses};
 ghost use Rattle.session_core.specs.Courses.{courses};
-ghost use Rattle.session_core.specs.Events.{CanHappenAt, bytes_refusal, refusal_at};
+ghost use Rattle.session_core.specs.Events.{CanHappen, bytes_refusal, lost_refusal, opened_refusal, refusal_at, stall_refusal, write_refusal};
 ghost use Rattle.session_core.specs.Reloads.{plan_of, reloads};
 ghost use Rattle.session_core.specs.History as history;
 ghost use Rattle.session_core.specs.History.{Follows};
@@ -23,9 +23,10 @@ use conf_shows::show_sets;
 use conf_tree::Conf;
 use core_msgs::{Core, CtlCommand, Done, Frame, Line};
 use net_base::{Addr, Items, NoMemory, Way};
-use peer_session::SessionRefusal;
+use peer_session::{NeighbourSession, SessionRefusal};
 use reload_stage::{Assembly, StageFault, StageItem};
 use std::alloc::Global;
+use std::collections::btree_map::Keys;
 use std::marker::Model;
 use std::mem;
 
@@ -98,6 +99,18 @@ impl Session {
         self.neighbours.outbox(peer)
     }
 
+    /// The configuration that holds: the empty one before the first.
+    pub fn conf(&self) -> &Conf
+        ensures { result.now ≡ self.now.conf }
+    {
+        &self.conf
+    }
+
+    /// The neighbours of the configuration, by address.
+    pub fn peers(&self) -> Keys<'_, Addr, NeighbourSession> {
+        self.neighbours.peers()
+    }
+
     /// Whether a neighbour takes no bytes for now.
     pub fn stalled(&self, peer: Addr) -> bool
         ensures { result ≡ stalled_at (peer_at peer self.now.neighbours) }
@@ -110,7 +123,7 @@ impl Session {
     /// `UnknownNeighbour` comes exactly where the configuration lacks the neighbour, `AdminDown` exactly where it is administratively
     /// down, and `AlreadyOpen` exactly where it has a connection.
     pub fn opened(&mut self, peer: Addr, _way: Way) -> Result<Done, SessionRefusal>
-        ensures refused { Refuses (refused_by self.old (refusal_at events.Opened (peer_at peer self.old.neighbours))) self.old self.new result }
+        ensures refused { Refuses (refused_by self.old (opened_refusal (peer_at peer self.old.neighbours))) self.old self.new result }
         ensures gives { IfOk result (λ done. Gives (event_reply peer events.Opened self.old) self.new done) }
         ensures history { IfOk result (λ done. Follows (history.Opened peer) self.old self.new done) }
     {
@@ -140,7 +153,7 @@ impl Session {
     /// The connection with a neighbour is lost, or couldn't be made. `NoConnection` comes exactly where none stands and none is
     /// being made.
     pub fn lost(&mut self, peer: Addr) -> Result<Done, SessionRefusal>
-        ensures refused { Refuses (refused_by self.old (refusal_at events.Lost (peer_at peer self.old.neighbours))) self.old self.new result }
+        ensures refused { Refuses (refused_by self.old (lost_refusal (peer_at peer self.old.neighbours))) self.old self.new result }
         ensures gives { IfOk result (λ done. Gives (event_reply peer events.Lost self.old) self.new done) }
         ensures history { IfOk result (λ done. Follows (history.Lost peer) self.old self.new done) }
     {
@@ -179,7 +192,7 @@ impl Session {
     ///
     /// `UnknownNeighbour` comes exactly where the configuration lacks the neighbour, `NoConnection` exactly where it has no connection.
     pub fn write(&mut self, peer: Addr, n: usize) -> Result<Done, SessionRefusal>
-        ensures refused { Refuses (refused_by self.old (refusal_at (events.Write n) (peer_at peer self.old.neighbours))) self.old self.new result }
+        ensures refused { Refuses (refused_by self.old (write_refusal n (peer_at peer self.old.neighbours))) self.old self.new result }
         ensures gives { IfOk result (λ done. Gives (event_reply peer (events.Write n) self.old) self.new done) }
         ensures history { IfOk result (λ done. Follows (history.Wrote peer n) self.old self.new done) }
     {
@@ -188,7 +201,7 @@ impl Session {
 
     /// A neighbour takes no bytes for now. It ends with the connection. The refusals are those of `write`.
     pub fn stall(&mut self, peer: Addr) -> Result<Done, SessionRefusal>
-        ensures refused { Refuses (refused_by self.old (refusal_at (events.Stall true) (peer_at peer self.old.neighbours))) self.old self.new result }
+        ensures refused { Refuses (refused_by self.old (stall_refusal true (peer_at peer self.old.neighbours))) self.old self.new result }
         ensures gives { IfOk result (λ done. Gives (event_reply peer (events.Stall true) self.old) self.new done) }
         ensures history { IfOk result (λ done. Follows (history.Stalled peer true) self.old self.new done) }
     {
@@ -197,7 +210,7 @@ impl Session {
 
     /// A neighbour takes bytes again. The refusals are those of `write`.
     pub fn flow(&mut self, peer: Addr) -> Result<Done, SessionRefusal>
-        ensures refused { Refuses (refused_by self.old (refusal_at (events.Stall false) (peer_at peer self.old.neighbours))) self.old self.new result }
+        ensures refused { Refuses (refused_by self.old (stall_refusal false (peer_at peer self.old.neighbours))) self.old self.new result }
         ensures gives { IfOk result (λ done. Gives (event_reply peer (events.Stall false) self.old) self.new done) }
         ensures history { IfOk result (λ done. Follows (history.Stalled peer false) self.old self.new done) }
     {
@@ -207,9 +220,10 @@ impl Session {
     /// A frame of another core. One that no core writes to this one is passed over, and so are a stage item that can't follow those
     /// before it and frames of sessions that aren't up. No refusal comes but `NoMemory` and `Spent`.
     ///
-    /// Routes of a session that is up can be written as one UPDATE by what was agreed with its neighbour.
+    /// Routes have valid attributes, and prefixes of the family of their next hop. Those that can't be one UPDATE by what was agreed
+    /// with the neighbour are passed over, and credited.
     pub fn frame(&mut self, frame: Frame) -> Result<Done, SessionRefusal>
-        requires { CanTake self.old frame }
+        requires { CanTake frame }
         ensures refused { Refuses (refused_by self.old None) self.old self.new result }
         ensures gives { IfOk result (λ done. Gives (frame_reply frame self.old) self.new done) }
         ensures history { IfOk result (λ done. Follows (history.Took frame) self.old self.new done) }
@@ -278,7 +292,7 @@ impl Session {
 impl Session {
     /// Something happens to one neighbour.
     fn event(&mut self, peer: Addr, event: PeerEvent) -> Result<Done, SessionRefusal>
-        requires { CanHappenAt event (peer_at peer self.old.neighbours) }
+        requires { CanHappen event }
         ensures refused { Refuses (refused_by self.old (refusal_at event (peer_at peer self.old.neighbours))) self.old self.new result }
         ensures gives { IfOk result (λ done. Gives (event_reply peer event self.old) self.new done) }
     {
@@ -293,7 +307,7 @@ impl Session {
     /// The same to the neighbour of a session that is up, by its number.
     fn session_event(&mut self, session: u32, event: PeerEvent) -> Result<Done, SessionRefusal>
         requires live { self.old.spent ≡ false }
-        requires fits { CanHappenAt event (peer_by (live_peer session self.old.live) self.old.neighbours) }
+        requires sound { CanHappen event }
         requires free { (o : Option Neighbour) → refusal_at event o ≡ None }
         ensures refused { IfErr result (λ why. (why ≡ Memory) × IsTrue self.new.spent) }
         ensures gives { IfOk result (λ done. Gives (session_reply session event self.old) self.new done) }

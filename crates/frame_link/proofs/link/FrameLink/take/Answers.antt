@@ -4,8 +4,8 @@ use Rattle.frame_link.specs.Carrying.{LinkState, Carries, CompletesFirst, GivesF
 use Rattle.frame_link.proofs.Carried.{completed, of_writer}
 use Rattle.frame_link.proofs.link.FrameLink.take.Goals as goal
 
-pub returns : goal.returns
-returns c fs carries partial =
+pub returns-clause-completes : goal.returns-clause-completes
+returns-clause-completes c fs carries partial =
     let old = of_writer c.self.inside.writer c.self.inside.link in
     let was = subst (λ (x : LinkState). Carries x fs) (sym c.self.view_is) carries in
     let part = subst (λ (x : LinkState). IsPartial x) (sym c.self.view_is) partial in
